@@ -1,0 +1,108 @@
+-- 01, Screens: the operations, their checks, their pairs.
+use Prim.Native.Nat.{ℕ, zero, suc, _+_, _-_, _*_, _/_, _%_}
+use mathlib.Core.Bool.{Bool, cond, _&&_}
+use mathlib.Core.List.{List, [], _∷_}
+use lib.Dec.{ltb, leb, eqb}
+use lib.ListN.{length, getD, take, drop}
+use Rattle.display.specs.declared.panel.Panel.{Panel}
+use Rattle.display.specs.declared.registers.Combination.{Combination}
+use Rattle.display.specs.declared.registers.Combination.the-variants.{Or, Exor, And}
+use Rattle.book.specs.Contents.{wordAt}
+
+pub data Operation : Type 0 where
+  -- line, column, codes
+  text : ℕ → ℕ → List ℕ → Operation
+  -- top, column, height, width, value
+  rectangle : ℕ → ℕ → ℕ → ℕ → ℕ → Operation
+  -- x, y, set or reset
+  dot : ℕ → ℕ → Bool → Operation
+  -- code, eight rows
+  glyph : ℕ → List ℕ → Operation
+  -- line, column, height, blink
+  cursor : ℕ → ℕ → ℕ → Bool → Operation
+  combine : Combination → Operation
+
+-- the pairs it is written in
+abbrev pub pairsFor : Operation → ℕ
+pairsFor (text line column codes) = length codes + 5
+pairsFor (rectangle top column height width value) = height * (width + 5)
+pairsFor (dot x y on) = 4
+pairsFor (glyph code rows) = 13
+pairsFor (cursor line column height blink) = 5
+pairsFor (combine k) = 1
+
+-- an operation with the byte behind it, or one that is unknown, cut or out of range
+pub data Reading : Type 0 where
+  reads : Operation → ℕ → Reading
+  faulty : Reading
+
+-- an operation of so many bytes, whole before the body's end and in range
+abbrev pub sized : ℕ → ℕ → ℕ → Bool → Operation → Reading
+sized at end size inRange o = cond (leb (at + size) end && inRange) (reads o (at + size)) faulty
+
+-- 1 line col n codes: n 1 to 80, col + n at most C, line below L
+abbrev pub readText : Panel → List ℕ → ℕ → ℕ → Reading
+readText p book at end =
+    sized at end (4 + getD book (at + 3) 0)
+    (ltb (getD book (at + 1) 0) (p .lines) && leb 1 (getD book (at + 3) 0) && leb (getD book (at + 3) 0) 80
+    && leb (getD book (at + 2) 0 + getD book (at + 3) 0) (p .columns))
+    (text (getD book (at + 1) 0) (getD book (at + 2) 0) (take (getD book (at + 3) 0) (drop (at + 4) book)))
+
+-- 2 top col height width value: height and width at least 1, inside the panel
+abbrev pub readRectangle : Panel → List ℕ → ℕ → ℕ → Reading
+readRectangle p book at end =
+    sized at end 6
+    (leb 1 (getD book (at + 3) 0) && leb 1 (getD book (at + 4) 0)
+    && leb (getD book (at + 1) 0 + getD book (at + 3) 0) (8 * p .lines)
+    && leb (getD book (at + 2) 0 + getD book (at + 4) 0) (p .columns))
+    (rectangle (getD book (at + 1) 0) (getD book (at + 2) 0) (getD book (at + 3) 0) (getD book (at + 4) 0) (getD book (at + 5) 0))
+
+-- 3 xlow xhigh y v: x below C·w, y below 8L, v 0 or 1
+abbrev pub readDot : Panel → List ℕ → ℕ → ℕ → Reading
+readDot p book at end =
+    sized at end 5
+    (ltb (wordAt book (at + 1)) (p .columns * p .width) && ltb (getD book (at + 3) 0) (8 * p .lines)
+    && leb (getD book (at + 4) 0) 1)
+    (dot (wordAt book (at + 1)) (getD book (at + 3) 0) (eqb (getD book (at + 4) 0) 1))
+
+-- 4 code eight rows: code 80H or more
+abbrev pub readGlyph : Panel → List ℕ → ℕ → ℕ → Reading
+readGlyph p book at end =
+    sized at end 10
+    (leb 0x80 (getD book (at + 1) 0))
+    (glyph (getD book (at + 1) 0) (take 8 (drop (at + 2) book)))
+
+-- 5 line col height blink: line below L, col below C, height 1 to 8, blink 0 or 1
+abbrev pub readCursor : Panel → List ℕ → ℕ → ℕ → Reading
+readCursor p book at end =
+    sized at end 5
+    (ltb (getD book (at + 1) 0) (p .lines) && ltb (getD book (at + 2) 0) (p .columns) && leb 1 (getD book (at + 3) 0)
+    && leb (getD book (at + 3) 0) 8 && leb (getD book (at + 4) 0) 1)
+    (cursor (getD book (at + 1) 0) (getD book (at + 2) 0) (getD book (at + 3) 0) (eqb (getD book (at + 4) 0) 1))
+
+-- 0 OR, 1 EXOR, 2 AND
+abbrev pub combinationOf : ℕ → Combination
+combinationOf k = cond (eqb k 0) Or (cond (eqb k 1) Exor And)
+
+-- 6 k
+abbrev pub readCombine : List ℕ → ℕ → ℕ → Reading
+readCombine book at end =
+    sized at end 2 (leb (getD book (at + 1) 0) 2) (combine (combinationOf (getD book (at + 1) 0)))
+
+-- the operation at a byte of the book, in a body that ends before end
+unfoldable pub operationAt : Panel → List ℕ → ℕ → ℕ → Reading
+operationAt p book at end =
+    cond (eqb (getD book at 0) 1) (readText p book at end)
+    (cond (eqb (getD book at 0) 2) (readRectangle p book at end)
+    (cond (eqb (getD book at 0) 3) (readDot p book at end)
+    (cond (eqb (getD book at 0) 4) (readGlyph p book at end)
+    (cond (eqb (getD book at 0) 5) (readCursor p book at end)
+    (cond (eqb (getD book at 0) 6) (readCombine book at end)
+    faulty)))))
+
+-- where a dot stands: the graphic byte, and in it bit w-1-(x mod w)
+abbrev pub dotByte : Panel → ℕ → ℕ → ℕ
+dotByte p x y = y * p .columns + x / p .width
+
+abbrev pub dotBit : Panel → ℕ → ℕ
+dotBit p x = p .width - 1 - x % p .width

@@ -1,0 +1,2 @@
+// A book of screens: its contents, and the operations of a screen.
+pub mod contents;

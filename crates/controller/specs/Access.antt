@@ -1,0 +1,158 @@
+-- 01, Bus pairs, and peek and copy of A displayed byte: what one pair does.
+use Prim.Native.Nat.{ℕ, _+_, _-_}
+use mathlib.Core.Bool.{Bool, true, false, cond, not, _&&_, _||_}
+use mathlib.Core.List.{List}
+use lib.Dec.{leb, eqb}
+use lib.ListN.{getD, set}
+use Rattle.ground.specs.Bytes.{withBit}
+use Rattle.ground.specs.Lists.{build, stored}
+use Rattle.display.specs.declared.panel.Panel.{Panel}
+use Rattle.display.specs.declared.registers.Auto.{Auto}
+use Rattle.display.specs.declared.registers.Auto.the-variants as auto
+use Rattle.display.specs.declared.registers.Bus.{Bus}
+use Rattle.display.specs.declared.registers.Registers.{Registers}
+use Rattle.display.specs.State.{validPanel, validRegisters, none}
+use Rattle.display.specs.Displayed.{addressOf, displayedByte, isAttribute}
+use Rattle.display.specs.Frame.{lentLengths}
+use Rattle.controller.specs.declared.command.Command.{Command}
+use Rattle.controller.specs.declared.command.Command.the-variants.{Set, Mode, Show, Height, Run, Store, Load, Peek, Copy, Bit}
+use Rattle.controller.specs.declared.command.Decoded.{Decoded}
+use Rattle.controller.specs.declared.command.Decoded.the-variants.{Defined, Undefined}
+use Rattle.controller.specs.declared.command.Move.the-variants.{Up}
+use Rattle.controller.specs.declared.position.Position.{Position}
+use Rattle.controller.specs.declared.position.Position.the-variants.{At, Nowhere}
+use Rattle.controller.specs.declared.access.Acted.{Acted}
+use Rattle.controller.specs.Command.{decodeOf, neededOf, isOff, endsAuto}
+use Rattle.controller.specs.Effect.{withDisplay, withBus, withMode, withShows, withCursor, withPhase, withPointer, withAuto, withPending, withLatch, withError, pushed, movedOf, setOf, statusOf}
+use Rattle.controller.specs.Position.{positionOf}
+
+-- a pair is a kind and a byte
+pub record Pair : Type 0 where
+  pub kind : ℕ
+  pub byte : ℕ
+
+-- the registers and the display memory
+pub record Machine : Type 0 where
+  pub registers : Registers
+  pub memory : List ℕ
+
+abbrev pub machine : Registers → List ℕ → Machine
+machine r m = record { registers = r; memory = m }
+
+-- what comes of a pair: done; done, with a byte read; or refused with a number, which changes nothing
+pub data Step (M : Type 0) : Type 0 where
+  done : M → Step M
+  answered : M → ℕ → Step M
+  refused : ℕ → Step M
+
+-- peek with a position: latch = displayed byte, error cleared; otherwise error set
+abbrev pub peekOf : Panel → List ℕ → Machine → Position → Bus
+peekOf p rom s (At r c) =
+    withError (withLatch (s .registers .bus) (displayedByte p (s .registers .display) (s .memory) rom r c)) false
+peekOf p rom s Nowhere = withError (s .registers .bus) true
+
+-- graphic bytes of row r from c to C-1 become their displayed bytes, gathered before any is stored
+unfoldable pub copiedOf : Panel → List ℕ → Machine → ℕ → ℕ → List ℕ
+copiedOf p rom s r c =
+    stored (s .memory) (addressOf (s .registers .display .graphic) r c)
+    (build (p .columns - c) (λ j. displayedByte p (s .registers .display) (s .memory) rom r (c + j)))
+
+-- copy with a position, not in attribute mode: the row copied, error cleared; otherwise error set
+abbrev pub copyOf : Panel → List ℕ → Machine → Position → Machine
+copyOf p rom s (At r c) =
+    cond (isAttribute (s .registers .display .combination))
+    (machine (withBus (s .registers) (withError (s .registers .bus) true)) (s .memory))
+    (machine (withBus (s .registers) (withError (s .registers .bus) false)) (copiedOf p rom s r c))
+copyOf p rom s Nowhere = machine (withBus (s .registers) (withError (s .registers .bus) true)) (s .memory)
+
+-- the column Effect
+abbrev pub effectOf : Panel → List ℕ → Machine → Command → Machine
+effectOf p rom s (Set t) =
+    machine (setOf t (s .registers .bus .pending .older) (s .registers .bus .pending .newest) (s .registers)) (s .memory)
+effectOf p rom s (Mode e k) =
+    machine (withDisplay (s .registers) (withMode (s .registers .display) e k)) (s .memory)
+effectOf p rom s (Show b) =
+    machine (withDisplay (s .registers) (withShows (s .registers .display) b)) (s .memory)
+effectOf p rom s (Height h) =
+    machine (withDisplay (s .registers) (withCursor (s .registers .display) (record { x = s .registers .display .cursor .x; y = s .registers .display .cursor .y; height = h }))) (s .memory)
+effectOf p rom s (Run a) =
+    machine (withBus (s .registers) (withAuto (s .registers .bus) a)) (s .memory)
+effectOf p rom s (Store v) =
+    machine (withBus (s .registers) (withPointer (s .registers .bus) (movedOf v (s .registers .bus .pointer))))
+    (set (s .memory) (s .registers .bus .pointer) (s .registers .bus .pending .newest))
+effectOf p rom s (Load v) =
+    machine (withBus (s .registers) (withPointer (withLatch (s .registers .bus) (getD (s .memory) (s .registers .bus .pointer) 0)) (movedOf v (s .registers .bus .pointer))))
+    (s .memory)
+effectOf p rom s Peek =
+    machine (withBus (s .registers) (peekOf p rom s (positionOf p (s .registers .display .graphic) (s .registers .bus .pointer)))) (s .memory)
+effectOf p rom s Copy = copyOf p rom s (positionOf p (s .registers .display .graphic) (s .registers .bus .pointer))
+effectOf p rom s (Bit on k) =
+    machine (s .registers)
+    (set (s .memory) (s .registers .bus .pointer) (withBit (getD (s .memory) (s .registers .bus .pointer) 0) k on))
+
+-- an accepted command leaves no data pending
+abbrev pub dropped : Machine → Machine
+dropped s = machine (withBus (s .registers) (withPending (s .registers .bus) none)) (s .memory)
+
+-- 5 in auto, a defined code but B2H; 6 too few data pending
+abbrev pub obeyOf : Panel → List ℕ → Machine → Command → Step Machine
+obeyOf p rom s k =
+    cond (endsAuto k || isOff (s .registers .bus .auto))
+    (cond (leb (neededOf k) (s .registers .bus .pending .count)) (done (dropped (effectOf p rom s k))) (refused 6))
+    (refused 5)
+
+-- a code is first taken apart; an undefined one ends the step there: 4
+abbrev pub commandOf : Panel → List ℕ → Machine → Decoded → Step Machine
+commandOf p rom s Undefined = refused 4
+commandOf p rom s (Defined k) = obeyOf p rom s k
+
+-- auto off: pending; in auto write stored at the pointer, which then moves by +1; in auto read 7
+abbrev pub writeOf : Auto → Machine → ℕ → Step Machine
+writeOf auto.Off s b =
+    done (machine (withBus (s .registers) (withPending (s .registers .bus) (pushed (s .registers .bus .pending) b))) (s .memory))
+writeOf auto.Write s b =
+    done (machine (withBus (s .registers) (withPointer (s .registers .bus) (movedOf Up (s .registers .bus .pointer)))) (set (s .memory) (s .registers .bus .pointer) b))
+writeOf auto.Read s b = refused 7
+
+-- auto off: the latch, unchanged; in auto read the byte at the pointer, then +1, the latch stays; in auto write 7
+abbrev pub readOf : Auto → Machine → Step Machine
+readOf auto.Off s = answered s (s .registers .bus .latch)
+readOf auto.Write s = refused 7
+readOf auto.Read s =
+    answered (machine (withBus (s .registers) (withPointer (s .registers .bus) (movedOf Up (s .registers .bus .pointer)))) (s .memory))
+    (getD (s .memory) (s .registers .bus .pointer) 0)
+
+-- blink tick: flips the phase (H)
+abbrev pub tickOf : Machine → Machine
+tickOf s = machine (withDisplay (s .registers) (withPhase (s .registers .display) (not (s .registers .display .phase)))) (s .memory)
+
+-- 0 data write, 1 command, 2 data read, 3 status read, 4 blink tick; 3 for a kind above 4
+abbrev pub stepOf : Panel → List ℕ → Machine → Pair → Step Machine
+stepOf p rom s q =
+    cond (eqb (q .kind) 0) (writeOf (s .registers .bus .auto) s (q .byte))
+    (cond (eqb (q .kind) 1) (commandOf p rom s (decodeOf (q .byte)))
+    (cond (eqb (q .kind) 2) (readOf (s .registers .bus .auto) s)
+    (cond (eqb (q .kind) 3) (answered s (statusOf (s .registers)))
+    (cond (eqb (q .kind) 4) (done (tickOf s))
+    (refused 3)))))
+
+-- a reply, and the display memory then
+pub record Accessed : Type 0 where
+  pub acted : Acted
+  pub memory : List ℕ
+
+abbrev pub accessed : ℕ → Registers → ℕ → List ℕ → Accessed
+accessed n r b m = record { acted = record { number = n; place = 0; registers = r; answer = b }; memory = m }
+
+-- a single access counts as pair 0 and returns its read byte, or 0; a refused one changes nothing
+abbrev pub actedOf : Registers → List ℕ → Step Machine → Accessed
+actedOf r m (done s) = accessed 0 (s .registers) 0 (s .memory)
+actedOf r m (answered s b) = accessed 0 (s .registers) b (s .memory)
+actedOf r m (refused n) = accessed n r 0 m
+
+-- 1 panel or state not valid, 2 a lent fixed length wrong, then the pair
+unfoldable pub accessOf : Panel → Registers → List ℕ → List ℕ → Pair → Accessed
+accessOf p r mem rom q =
+    cond (validPanel p && validRegisters r)
+    (cond (lentLengths mem rom) (actedOf r mem (stepOf p rom (machine r mem) q)) (accessed 2 r 0 mem))
+    (accessed 1 r 0 mem)

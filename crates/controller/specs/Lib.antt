@@ -1,0 +1,5 @@
+pub mod Command
+pub mod Effect
+pub mod Position
+pub mod Access
+pub mod Run

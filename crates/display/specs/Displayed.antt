@@ -1,0 +1,115 @@
+-- 01, A displayed byte: for cell column c, dot row r, line l = r div 8, v = r mod 8.
+use Prim.Native.Nat.{ℕ, _+_, _-_, _*_, _/_, _%_, _^_}
+use mathlib.Core.List.{List}
+use mathlib.Core.Bool.{Bool, true, false, cond, not, _&&_, _||_}
+use lib.Dec.{ltb, leb, eqb}
+use lib.Bits.{bitOr, bitXor, bitAnd}
+use lib.ListN.{getD}
+use Rattle.display.specs.declared.panel.Panel.{Panel}
+use Rattle.display.specs.declared.registers.Plane.{Plane}
+use Rattle.display.specs.declared.registers.Cursor.{Cursor}
+use Rattle.display.specs.declared.registers.Display.{Display}
+use Rattle.display.specs.declared.registers.Combination.{Combination}
+use Rattle.display.specs.declared.registers.Combination.the-variants.{Or, Exor, And, Attribute}
+use Rattle.display.specs.declared.attribute.Show.{Show}
+use Rattle.display.specs.declared.attribute.Show.the-variants.{Normal, Reverse, Inhibit}
+use Rattle.display.specs.declared.attribute.Look.{Look}
+
+-- home + row·area + column, modulo 65,536
+abbrev pub addressOf : Plane → ℕ → ℕ → ℕ
+addressOf q row c = (q .home + row * q .area + c) % 65536
+
+-- text code: the byte at text home + l·text area + c
+unfoldable pub textCode : Display → List ℕ → ℕ → ℕ → ℕ
+textCode d mem l c = getD mem (addressOf (d .text) l c) 0
+
+-- glyph row: ROM byte 8·code + v if internal and code below 80H, else memory byte 2048·offset + 8·code + v
+unfoldable pub glyphRow : Display → List ℕ → List ℕ → ℕ → ℕ → ℕ
+glyphRow d mem rom code v =
+    cond (not (d .external) && ltb code 0x80)
+    (getD rom (8 * code + v) 0)
+    (getD mem (2048 * d .offset + 8 * code + v) 0)
+
+-- graphic: the byte at graphic home + r·graphic area + c
+unfoldable pub graphicByte : Display → List ℕ → ℕ → ℕ → ℕ
+graphicByte d mem r c = getD mem (addressOf (d .graphic) r c) 0
+
+-- the attribute byte: at graphic home + l·graphic area + c, for all eight rows
+unfoldable pub attributeByte : Display → List ℕ → ℕ → ℕ → ℕ
+attributeByte d mem l c = getD mem (addressOf (d .graphic) l c) 0
+
+-- the table: 0 normal, 5 reverse, 3 inhibit; 8, 13, 11 the same with blink; the other ten normal, steady (H)
+unfoldable pub lookOf : ℕ → Look
+lookOf n =
+    record {
+      shown = cond (eqb n 5 || eqb n 13) Reverse (cond (eqb n 3 || eqb n 11) Inhibit Normal);
+      blinks = eqb n 8 || eqb n 13 || eqb n 11;
+    }
+
+-- normal; reverse, w bits complemented; inhibit, 0
+abbrev pub shownAs : Show → ℕ → ℕ → ℕ
+shownAs Normal w n = n
+shownAs Reverse w n = 2 ^ w - 1 - n
+shownAs Inhibit w n = 0
+
+-- w bits under an attribute byte, whose low four bits are its code; blink shows 0 in phase off (H)
+unfoldable pub attributed : ℕ → Bool → ℕ → ℕ → ℕ
+attributed w normal attribute n =
+    cond (lookOf (attribute % 16) .blinks && not normal) 0 (shownAs (lookOf (attribute % 16) .shown) w n)
+
+abbrev pub isAttribute : Combination → Bool
+isAttribute Or = false
+isAttribute Exor = false
+isAttribute And = false
+isAttribute Attribute = true
+
+-- text and graphic both on: their OR, EXOR or AND; in attribute mode the text shows alone
+abbrev pub combined : Combination → ℕ → ℕ → ℕ
+combined Or t g = bitOr t g
+combined Exor t g = bitXor t g
+combined And t g = bitAnd t g
+combined Attribute t g = t
+
+-- the low w bits of the cell's glyph row
+unfoldable pub glyphDots : Panel → Display → List ℕ → List ℕ → ℕ → ℕ → ℕ
+glyphDots p d mem rom r c = glyphRow d mem rom (textCode d mem (r / 8) c) (r % 8) % 2 ^ p .width
+
+-- text off: 0; in attribute mode attributed if both are on, plain if text only (H)
+abbrev pub textLayer : Bool → Bool → Bool → ℕ → ℕ → ℕ
+textLayer text graphic attribute shown plain = cond text (cond (attribute && graphic) shown plain) 0
+
+-- the text's w bits after attribute
+unfoldable pub textDots : Panel → Display → List ℕ → List ℕ → ℕ → ℕ → ℕ
+textDots p d mem rom r c =
+    textLayer (d .shows .text) (d .shows .graphic) (isAttribute (d .combination))
+    (attributed (p .width) (d .phase) (attributeByte d mem (r / 8) c) (glyphDots p d mem rom r c))
+    (glyphDots p d mem rom r c)
+
+-- the graphic's w bits; 0 where graphic is off, and in attribute mode (H)
+unfoldable pub graphicDots : Panel → Display → List ℕ → ℕ → ℕ → ℕ
+graphicDots p d mem r c =
+    cond (d .shows .graphic && not (isAttribute (d .combination))) (graphicByte d mem r c % 2 ^ p .width) 0
+
+-- both on: combined; one on: that one alone; neither: 0, as a layer that is off has no dots
+abbrev pub mixed : Bool → Bool → Combination → ℕ → ℕ → ℕ
+mixed text graphic k t g = cond text (cond graphic (combined k t g) t) g
+
+unfoldable pub displayedByte : Panel → Display → List ℕ → List ℕ → ℕ → ℕ → ℕ
+displayedByte p d mem rom r c =
+    mixed (d .shows .text) (d .shows .graphic) (d .combination) (textDots p d mem rom r c) (graphicDots p d mem r c)
+
+-- X below C, Y below L: the cursor's cell, in its lowest rows, as many as its height (H)
+abbrev pub cursorCovers : Panel → Cursor → ℕ → ℕ → ℕ → Bool
+cursorCovers p k l v c =
+    ltb (k .x) (p .columns) && ltb (k .y) (p .lines) && eqb (k .x) c && eqb (k .y) l && leb (8 - k .height) v
+
+-- cursor bit on, blink bit off or phase normal
+abbrev pub cursorLit : Bool → Bool → Bool → Bool
+cursorLit on blink normal = on && (not blink || normal)
+
+-- the cursor laid over: all dots set
+unfoldable pub cellByte : Panel → Display → List ℕ → List ℕ → ℕ → ℕ → ℕ
+cellByte p d mem rom r c =
+    cond (cursorLit (d .shows .cursor) (d .shows .blink) (d .phase) && cursorCovers p (d .cursor) (r / 8) (r % 8) c)
+    (2 ^ p .width - 1)
+    (displayedByte p d mem rom r c)

@@ -1,0 +1,56 @@
+-- 01, Panel and memory: valid panels, valid states, the reset state.
+use mathlib.Core.Bool.{Bool, true, false, _&&_, _||_}
+use lib.Dec.{ltb, leb, eqb}
+use Rattle.display.specs.declared.panel.Panel.{Panel}
+use Rattle.display.specs.declared.registers.Plane.{Plane}
+use Rattle.display.specs.declared.registers.Combination.the-variants.{Or}
+use Rattle.display.specs.declared.registers.Display.{Display}
+use Rattle.display.specs.declared.registers.Auto.the-variants.{Off}
+use Rattle.display.specs.declared.registers.Pending.{Pending}
+use Rattle.display.specs.declared.registers.Bus.{Bus}
+use Rattle.display.specs.declared.registers.Registers.{Registers}
+
+-- C 1 to 80, L 1 to 16, w 6 or 8
+abbrev pub validPanel : Panel → Bool
+validPanel p =
+    leb 1 (p .columns) && leb (p .columns) 80 && leb 1 (p .lines) && leb (p .lines) 16
+    && (eqb (p .width) 6 || eqb (p .width) 8)
+
+-- cursor X 0 to 127, Y 0 to 31, offset 0 to 31, cursor height 1 to 8; the other ranges are those of the fields' types
+abbrev pub validDisplay : Display → Bool
+validDisplay d =
+    ltb (d .cursor .x) 128 && ltb (d .cursor .y) 32 && ltb (d .offset) 32 && leb 1 (d .cursor .height)
+    && leb (d .cursor .height) 8
+
+-- 0 to 2 pending data, unused places 0
+abbrev pub validBus : Bus → Bool
+validBus b =
+    leb (b .pending .count) 2 && (eqb (b .pending .older) 0 || eqb (b .pending .count) 2)
+    && (eqb (b .pending .newest) 0 || leb 1 (b .pending .count))
+
+abbrev pub validRegisters : Registers → Bool
+validRegisters r = validDisplay (r .display) && validBus (r .bus)
+
+-- none pending
+abbrev pub none : Pending
+none = record { count = 0; older = 0; newest = 0 }
+
+abbrev pub resetPlane : Plane
+resetPlane = record { home = 0; area = 0 }
+
+-- numbers zero, cursor height 1, OR, internal, display bits off, auto off, none pending, error clear, phase normal
+abbrev pub resetRegisters : Registers
+resetRegisters =
+    record {
+      display = record {
+        text = resetPlane;
+        graphic = resetPlane;
+        offset = 0;
+        combination = Or;
+        external = false;
+        shows = record { graphic = false; text = false; cursor = false; blink = false };
+        cursor = record { x = 0; y = 0; height = 1 };
+        phase = true;
+      };
+      bus = record { pointer = 0; auto = Off; pending = none; latch = 0; error = false };
+    }

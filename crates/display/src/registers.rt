@@ -1,0 +1,142 @@
+// The registers, in two groups: what decides the picture, and what decides how the next access is taken.
+ghost use mathlib.Core.Path.{_≡_};
+ghost use mathlib.Core.Bool.{true};
+ghost use Rattle.display.specs.State.{validDisplay, validBus, validRegisters, resetRegisters};
+
+// The home and the area of text or of graphic.
+pub struct Plane {
+    pub home: u16,
+    pub area: u8,
+}
+
+pub struct Cursor {
+    pub x: u8,
+    pub y: u8,
+    pub height: u8,
+}
+
+// The four display bits.
+pub struct Shows {
+    pub graphic: bool,
+    pub text: bool,
+    pub cursor: bool,
+    pub blink: bool,
+}
+
+pub enum Combination {
+    Or,
+    Exor,
+    And,
+    Attribute,
+}
+
+// All that decides what the panel shows. The phase is true where it is normal, false where it is off.
+pub struct Display {
+    pub text: Plane,
+    pub graphic: Plane,
+    pub offset: u8,
+    pub combination: Combination,
+    pub external: bool,
+    pub shows: Shows,
+    pub cursor: Cursor,
+    pub phase: bool,
+}
+
+pub enum Auto {
+    Off,
+    Write,
+    Read,
+}
+
+// The last data written, 0 to 2 of them: one alone stands in newest, and a place that is not used holds 0.
+pub struct Pending {
+    pub count: u8,
+    pub older: u8,
+    pub newest: u8,
+}
+
+// All that decides how the next access is taken.
+pub struct Bus {
+    pub pointer: u16,
+    pub auto: Auto,
+    pub pending: Pending,
+    pub latch: u8,
+    pub error: bool,
+}
+
+pub struct Registers {
+    pub display: Display,
+    pub bus: Bus,
+}
+
+impl Display {
+    pub fn valid(self) -> bool
+        ensures { λ r. ⌜ r ≡ validDisplay self ⌝ }
+    {
+        (self.cursor.x < 128)
+            & (self.cursor.y < 32)
+            & (self.offset < 32)
+            & (1 <= self.cursor.height)
+            & (self.cursor.height <= 8)
+    }
+}
+
+impl Bus {
+    pub fn valid(self) -> bool
+        ensures { λ r. ⌜ r ≡ validBus self ⌝ }
+    {
+        (self.pending.count <= 2)
+            & ((self.pending.older == 0) | (self.pending.count == 2))
+            & ((self.pending.newest == 0) | (1 <= self.pending.count))
+    }
+}
+
+impl Registers {
+    pub fn valid(self) -> bool
+        ensures { λ r. ⌜ r ≡ validRegisters self ⌝ }
+    {
+        let display = self.display;
+        let bus = self.bus;
+        display.valid() & bus.valid()
+    }
+
+    // The state after a reset, which is valid.
+    pub fn reset() -> Registers
+        ensures { λ r. ⌜ r ≡ resetRegisters ⌝ }
+        ensures { λ r. ⌜ validRegisters r ≡ true ⌝ }
+    {
+        let plane = Plane { home: 0, area: 0 };
+        Registers {
+            display: Display {
+                text: plane,
+                graphic: plane,
+                offset: 0,
+                combination: Combination::Or,
+                external: false,
+                shows: Shows {
+                    graphic: false,
+                    text: false,
+                    cursor: false,
+                    blink: false,
+                },
+                cursor: Cursor {
+                    x: 0,
+                    y: 0,
+                    height: 1,
+                },
+                phase: true,
+            },
+            bus: Bus {
+                pointer: 0,
+                auto: Auto::Off,
+                pending: Pending {
+                    count: 0,
+                    older: 0,
+                    newest: 0,
+                },
+                latch: 0,
+                error: false,
+            },
+        }
+    }
+}

@@ -1,0 +1,16 @@
+-- Bits of a byte, bit 0 the least, and 16 bits given low byte first.
+use Prim.Native.Nat.{ℕ, _+_, _-_, _*_, _/_, _%_, _^_}
+use mathlib.Core.Bool.{Bool, cond}
+use lib.Bits.{bitAnd, bitOr}
+
+-- bit k of n
+abbrev pub bitOf : ℕ → ℕ → ℕ
+bitOf n k = n / 2 ^ k % 2
+
+-- the byte n with bit k set or reset
+abbrev pub withBit : ℕ → ℕ → Bool → ℕ
+withBit n k on = cond on (bitOr n (2 ^ k)) (bitAnd n (255 - 2 ^ k))
+
+-- D1 + 256·D2
+abbrev pub wordOf : ℕ → ℕ → ℕ
+wordOf low high = low + 256 * high

@@ -1,0 +1,20 @@
+// Bits of a byte, and two bytes as a word.
+ghost use mathlib.Core.Path.{_≡_};
+ghost use Rattle.ground.specs.Bytes.{bitOf, wordOf};
+
+// Bit `at` of a byte, 0 above its eight.
+pub fn bit(byte: u8, at: usize) -> u8
+    ensures { λ r. ⌜ r ≡ bitOf byte at ⌝ }
+{
+    if 8 <= at {
+        return 0;
+    }
+    (byte >> at) % 2
+}
+
+// A word given low byte first.
+pub fn word(low: u8, high: u8) -> u16
+    ensures { λ r. ⌜ r ≡ wordOf low high ⌝ }
+{
+    low as u16 + 256 * (high as u16)
+}

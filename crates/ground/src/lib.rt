@@ -1,0 +1,2 @@
+// Bytes, lists made from a rule, dots packed into bytes: definitions and laws that every crate above cites.
+pub mod bytes;

@@ -1,0 +1,97 @@
+-- 01, Screens: the picture, defined over planes with no register in it.
+use Prim.Native.Nat.{ℕ, zero, suc, _+_, _-_, _*_, _/_, _%_, _^_}
+use mathlib.Core.Bool.{Bool, true, false, cond, not, _&&_}
+use mathlib.Core.List.{List, [], _∷_}
+use lib.Dec.{ltb}
+use lib.ListN.{getD, set, replicate}
+use lib.Seq.{sets}
+use Rattle.ground.specs.Bytes.{withBit}
+use Rattle.ground.specs.Lists.{zeros}
+use Rattle.ground.specs.Packing.{frameFrom}
+use Rattle.display.specs.declared.panel.Panel.{Panel}
+use Rattle.display.specs.declared.registers.Combination.{Combination}
+use Rattle.display.specs.declared.registers.Combination.the-variants.{Or}
+use Rattle.display.specs.Displayed.{combined, cursorLit, cursorCovers}
+use Rattle.book.specs.Operation.{Operation, text, rectangle, dot, glyph, cursor, combine, dotByte, dotBit}
+use Rattle.picture.specs.declared.cursor.Laid.{Laid}
+use Rattle.picture.specs.declared.cursor.Laid.the-variants.{Nowhere, Over}
+
+-- planes of C·8L graphic bytes, C·L text codes and 1,024 glyph bytes; the combination; the cursor
+pub record Picture : Type 0 where
+  pub graphic : List ℕ
+  pub codes : List ℕ
+  pub glyphs : List ℕ
+  pub combination : Combination
+  pub cursor : Laid
+
+-- graphic bytes 0, text codes 0, glyphs 80H-FFH all 0, OR, no cursor
+unfoldable pub blank : Panel → Picture
+blank p =
+    record {
+      graphic = zeros (8 * p .lines * p .columns);
+      codes = zeros (p .lines * p .columns);
+      glyphs = zeros 1024;
+      combination = Or;
+      cursor = Nowhere;
+    }
+
+abbrev pub withPlanes : Picture → List ℕ → List ℕ → List ℕ → Picture
+withPlanes a graphic codes glyphs = record { graphic = graphic; codes = codes; glyphs = glyphs; combination = a .combination; cursor = a .cursor }
+
+-- that rectangle of graphic bytes becomes value, row by row from row top on
+unfoldable pub filled : Panel → ℕ → ℕ → ℕ → ℕ → ℕ → List ℕ → List ℕ
+filled p top column zero width value g = g
+filled p top column (suc height) width value g =
+    filled p (suc top) column height width value (sets g (top * p .columns + column) (replicate width value))
+
+unfoldable pub applied : Panel → Operation → Picture → Picture
+applied p (text line column codes) a =
+    withPlanes a (a .graphic) (sets (a .codes) (line * p .columns + column) codes) (a .glyphs)
+applied p (rectangle top column height width value) a =
+    withPlanes a (filled p top column height width value (a .graphic)) (a .codes) (a .glyphs)
+applied p (dot x y on) a =
+    withPlanes a (set (a .graphic) (dotByte p x y) (withBit (getD (a .graphic) (dotByte p x y) 0) (dotBit p x) on)) (a .codes) (a .glyphs)
+applied p (glyph k rows) a = withPlanes a (a .graphic) (a .codes) (sets (a .glyphs) (8 * (k - 0x80)) rows)
+applied p (cursor line column height blink) a =
+    record {
+      graphic = a .graphic;
+      codes = a .codes;
+      glyphs = a .glyphs;
+      combination = a .combination;
+      cursor = Over (record { x = column; y = line; height = height }) blink;
+    }
+applied p (combine k) a =
+    record { graphic = a .graphic; codes = a .codes; glyphs = a .glyphs; combination = k; cursor = a .cursor }
+
+-- operations apply in order, later over earlier
+unfoldable pub appliedAll : Panel → List Operation → Picture → Picture
+appliedAll p [] a = a
+appliedAll p (o ∷ os) a = appliedAll p os (applied p o a)
+
+unfoldable pub pictureOf : Panel → List Operation → Picture
+pictureOf p os = appliedAll p os (blank p)
+
+-- codes below 80H from the ROM
+unfoldable pub pictureGlyph : List ℕ → Picture → ℕ → ℕ → ℕ
+pictureGlyph rom a k v = cond (ltb k 0x80) (getD rom (8 * k + v) 0) (getD (a .glyphs) (8 * (k - 0x80) + v) 0)
+
+abbrev pub litIn : Laid → Bool → Bool
+litIn Nowhere normal = false
+litIn (Over k blink) normal = cursorLit true blink normal
+
+abbrev pub coveredBy : Panel → Laid → ℕ → ℕ → ℕ → Bool
+coveredBy p Nowhere l v c = false
+coveredBy p (Over k blink) l v c = cursorCovers p k l v c
+
+-- the combination and cursor rules of a displayed byte, both layers on
+unfoldable pub pictureCell : Panel → List ℕ → Picture → Bool → ℕ → ℕ → ℕ
+pictureCell p rom a normal r c =
+    cond (litIn (a .cursor) normal && coveredBy p (a .cursor) (r / 8) (r % 8) c)
+    (2 ^ p .width - 1)
+    (combined (a .combination)
+    (pictureGlyph rom a (getD (a .codes) (r / 8 * p .columns + c) 0) (r % 8) % 2 ^ p .width)
+    (getD (a .graphic) (r * p .columns + c) 0 % 2 ^ p .width))
+
+-- the picture's dots in a phase, packed as a frame
+unfoldable pub pictureFrame : Panel → List ℕ → Picture → Bool → List ℕ
+pictureFrame p rom a normal = frameFrom (p .columns) (p .lines) (p .width) (pictureCell p rom a normal)

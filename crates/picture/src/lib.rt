@@ -1,0 +1,2 @@
+// A screen of a book becomes dots, with no register in sight.
+pub mod cursor;
