@@ -1,2 +1,3 @@
 pub mod Stream
 pub mod Written
+pub mod BenchPoints
