@@ -4,11 +4,8 @@ use Prim.Native.Nat.{ℕ, _*_, _<_}
 use borrow.Author.Tests.{eq-eqb, ne-eqb}
 use Rattle.ground.specs.Lists.{build, joined, firstOf}
 use Rattle.ground.proofs.Searches.{Passed, first-none, first-found, build-passed, build-finds, joined-passed, joined-finds}
-use Rattle.display.specs.declared.panel.Panel.{Panel}
-use Rattle.display.specs.declared.registers.Plane.{Plane}
+use Rattle.controller.specs.Types.{Panel, Plane, Position, At, Nowhere}
 use Rattle.display.specs.Displayed.{addressOf}
-use Rattle.controller.specs.declared.position.Position.{Position}
-use Rattle.controller.specs.declared.position.Position.the-variants.{At, Nowhere}
 use Rattle.controller.specs.Position.{positions, standsAt, positionOf}
 
 module _ (p : Panel) (q : Plane) (pointer : ℕ) where

@@ -5,7 +5,7 @@ use Prim.Native.Nat.{ℕ, zero, suc, _+_, _≤_}
 use native.Mathlib.Omega.{arith}
 use lib.Dec.{ltb, leb}
 use borrow.Author.Tests.{le-leb, ltb-false}
-use Rattle.display.specs.declared.registers.Pending.{Pending}
+use Rattle.controller.specs.Types.{Pending}
 use Rattle.controller.specs.Effect.{pushed}
 
 count-after : (n : ℕ) (t : Bool) → ltb n 2 ≡ t → (1 ≤ cond t (n + 1) 2) × ((k : ℕ) → k ≤ n → k ≤ 1 → k + 1 ≤ cond t (n + 1) 2)

@@ -6,22 +6,10 @@ use lib.Dec.{leb, eqb}
 use lib.ListN.{getD, set}
 use Rattle.ground.specs.Bytes.{withBit}
 use Rattle.ground.specs.Lists.{build, stored}
-use Rattle.display.specs.declared.panel.Panel.{Panel}
-use Rattle.display.specs.declared.registers.Auto.{Auto}
-use Rattle.display.specs.declared.registers.Auto.the-variants as auto
-use Rattle.display.specs.declared.registers.Bus.{Bus}
-use Rattle.display.specs.declared.registers.Registers.{Registers}
+use Rattle.controller.specs.Types.{Panel, Auto, Off, Write, Read, Bus, Registers, Command, Set, Mode, Show, Height, Run, Store, Load, Peek, Copy, Bit, Decoded, Defined, Undefined, Up, Position, At, Nowhere, Acted}
 use Rattle.display.specs.State.{validPanel, validRegisters, none}
 use Rattle.display.specs.Displayed.{addressOf, displayedByte, isAttribute}
 use Rattle.display.specs.Frame.{lentLengths}
-use Rattle.controller.specs.declared.command.Command.{Command}
-use Rattle.controller.specs.declared.command.Command.the-variants.{Set, Mode, Show, Height, Run, Store, Load, Peek, Copy, Bit}
-use Rattle.controller.specs.declared.command.Decoded.{Decoded}
-use Rattle.controller.specs.declared.command.Decoded.the-variants.{Defined, Undefined}
-use Rattle.controller.specs.declared.command.Move.the-variants.{Up}
-use Rattle.controller.specs.declared.position.Position.{Position}
-use Rattle.controller.specs.declared.position.Position.the-variants.{At, Nowhere}
-use Rattle.controller.specs.declared.access.Acted.{Acted}
 use Rattle.controller.specs.Command.{decodeOf, neededOf, isOff, endsAuto}
 use Rattle.controller.specs.Effect.{withDisplay, withBus, withMode, withShows, withCursor, withPhase, withPointer, withAuto, withPending, withLatch, withError, pushed, movedOf, setOf, statusOf}
 use Rattle.controller.specs.Position.{positionOf}
@@ -108,17 +96,17 @@ commandOf p rom s (Defined k) = obeyOf p rom s k
 
 -- auto off: pending; in auto write stored at the pointer, which then moves by +1; in auto read 7
 abbrev pub writeOf : Auto → Machine → ℕ → Step Machine
-writeOf auto.Off s b =
+writeOf Off s b =
     done (machine (withBus (s .registers) (withPending (s .registers .bus) (pushed (s .registers .bus .pending) b))) (s .memory))
-writeOf auto.Write s b =
+writeOf Write s b =
     done (machine (withBus (s .registers) (withPointer (s .registers .bus) (movedOf Up (s .registers .bus .pointer)))) (set (s .memory) (s .registers .bus .pointer) b))
-writeOf auto.Read s b = refused 7
+writeOf Read s b = refused 7
 
 -- auto off: the latch, unchanged; in auto read the byte at the pointer, then +1, the latch stays; in auto write 7
 abbrev pub readOf : Auto → Machine → Step Machine
-readOf auto.Off s = answered s (s .registers .bus .latch)
-readOf auto.Write s = refused 7
-readOf auto.Read s =
+readOf Off s = answered s (s .registers .bus .latch)
+readOf Write s = refused 7
+readOf Read s =
     answered (machine (withBus (s .registers) (withPointer (s .registers .bus) (movedOf Up (s .registers .bus .pointer)))) (s .memory))
     (getD (s .memory) (s .registers .bus .pointer) 0)
 

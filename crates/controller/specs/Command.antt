@@ -3,15 +3,8 @@ use Prim.Native.Nat.{ℕ, _+_, _/_, _%_}
 use mathlib.Core.Bool.{Bool, true, false, cond}
 use lib.Dec.{ltb, eqb}
 use Rattle.ground.specs.Bytes.{bitOf}
-use Rattle.display.specs.declared.registers.Auto.{Auto}
-use Rattle.display.specs.declared.registers.Auto.the-variants as auto
-use Rattle.display.specs.declared.registers.Combination.the-variants as combination
-use Rattle.controller.specs.declared.command.Move.the-variants.{Up, Down, Stay}
+use Rattle.controller.specs.Types.{Auto, Off, Write, Read, Or, Exor, And, Attribute, Up, Down, Stay, Command, Set, Mode, Show, Height, Run, Store, Load, Peek, Copy, Bit, Decoded, Defined, Undefined}
 use Rattle.controller.specs.declared.command.Target.the-variants.{Cursor, Offset, Pointer, TextHome, TextArea, GraphicHome, GraphicArea}
-use Rattle.controller.specs.declared.command.Command.{Command}
-use Rattle.controller.specs.declared.command.Command.the-variants.{Set, Mode, Show, Height, Run, Store, Load, Peek, Copy, Bit}
-use Rattle.controller.specs.declared.command.Decoded.{Decoded}
-use Rattle.controller.specs.declared.command.Decoded.the-variants.{Defined, Undefined}
 
 -- bit k of a code
 abbrev pub has : ℕ → ℕ → Bool
@@ -37,10 +30,10 @@ controlOf low =
 -- 80H-8FH: bit 3 external; low bits 0 OR, 1 EXOR, 3 AND, 4 attribute; 2, 5, 6, 7 undefined (H)
 abbrev pub modeOf : ℕ → Decoded
 modeOf low =
-    cond (eqb (low % 8) 0) (Defined (Mode (has low 3) combination.Or))
-    (cond (eqb (low % 8) 1) (Defined (Mode (has low 3) combination.Exor))
-    (cond (eqb (low % 8) 3) (Defined (Mode (has low 3) combination.And))
-    (cond (eqb (low % 8) 4) (Defined (Mode (has low 3) combination.Attribute))
+    cond (eqb (low % 8) 0) (Defined (Mode (has low 3) Or))
+    (cond (eqb (low % 8) 1) (Defined (Mode (has low 3) Exor))
+    (cond (eqb (low % 8) 3) (Defined (Mode (has low 3) And))
+    (cond (eqb (low % 8) 4) (Defined (Mode (has low 3) Attribute))
     Undefined)))
 
 -- 90H-9FH: bit 3 graphic, 2 text, 1 cursor, 0 cursor blink
@@ -55,9 +48,9 @@ heightOf low = cond (ltb low 8) (Defined (Height (low + 1))) Undefined
 -- B0H, B1H, B2H: auto write, auto read, auto off
 abbrev pub runOf : ℕ → Decoded
 runOf low =
-    cond (eqb low 0) (Defined (Run auto.Write))
-    (cond (eqb low 1) (Defined (Run auto.Read))
-    (cond (eqb low 2) (Defined (Run auto.Off))
+    cond (eqb low 0) (Defined (Run Write))
+    (cond (eqb low 1) (Defined (Run Read))
+    (cond (eqb low 2) (Defined (Run Off))
     Undefined))
 
 -- C0H, C2H, C4H store, C1H, C3H, C5H load; then +1, -1, 0
@@ -109,9 +102,9 @@ neededOf Copy = 0
 neededOf (Bit s k) = 0
 
 abbrev pub isOff : Auto → Bool
-isOff auto.Off = true
-isOff auto.Write = false
-isOff auto.Read = false
+isOff Off = true
+isOff Write = false
+isOff Read = false
 
 -- B2H, the one code taken in auto
 abbrev pub endsAuto : Command → Bool

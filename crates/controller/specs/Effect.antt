@@ -4,19 +4,7 @@ use mathlib.Core.Bool.{Bool, cond}
 use lib.Dec.{ltb}
 use lib.Bits.{bitOr}
 use Rattle.ground.specs.Bytes.{wordOf}
-use Rattle.display.specs.declared.registers.Plane.{Plane}
-use Rattle.display.specs.declared.registers.Cursor.{Cursor}
-use Rattle.display.specs.declared.registers.Shows.{Shows}
-use Rattle.display.specs.declared.registers.Combination.{Combination}
-use Rattle.display.specs.declared.registers.Display.{Display}
-use Rattle.display.specs.declared.registers.Auto.{Auto}
-use Rattle.display.specs.declared.registers.Auto.the-variants as auto
-use Rattle.display.specs.declared.registers.Pending.{Pending}
-use Rattle.display.specs.declared.registers.Bus.{Bus}
-use Rattle.display.specs.declared.registers.Registers.{Registers}
-use Rattle.controller.specs.declared.command.Move.{Move}
-use Rattle.controller.specs.declared.command.Move.the-variants.{Up, Down, Stay}
-use Rattle.controller.specs.declared.command.Target.{Target}
+use Rattle.controller.specs.Types.{Plane, Cursor, Shows, Combination, Display, Auto, Off, Write, Read, Pending, Bus, Registers, Move, Up, Down, Stay, Target}
 use Rattle.controller.specs.declared.command.Target.the-variants as target
 
 abbrev pub withDisplay : Registers → Display → Registers
@@ -88,9 +76,9 @@ setOf target.GraphicArea d1 d2 r =
 
 -- bits 0 and 1 unless auto, bit 2 in auto read, bit 3 in auto write (H for bits 0 and 1)
 abbrev pub autoBits : Auto → ℕ
-autoBits auto.Off = 0b0011
-autoBits auto.Read = 0b0100
-autoBits auto.Write = 0b1000
+autoBits Off = 0b0011
+autoBits Read = 0b0100
+autoBits Write = 0b1000
 
 -- and bit 5 always, bit 6 error, bit 7 phase normal, bit 4 clear (H but for bit 6)
 abbrev pub statusOf : Registers → ℕ

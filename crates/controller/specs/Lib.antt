@@ -1,3 +1,4 @@
+pub mod Types
 pub mod Command
 pub mod Effect
 pub mod Position

@@ -4,11 +4,8 @@ use mathlib.Core.Bool.{Bool, false}
 use mathlib.Core.List.{List}
 use lib.Dec.{eqb}
 use Rattle.ground.specs.Lists.{build, joined, firstOf}
-use Rattle.display.specs.declared.panel.Panel.{Panel}
-use Rattle.display.specs.declared.registers.Plane.{Plane}
+use Rattle.controller.specs.Types.{Panel, Plane, Position, At, Nowhere}
 use Rattle.display.specs.Displayed.{addressOf}
-use Rattle.controller.specs.declared.position.Position.{Position}
-use Rattle.controller.specs.declared.position.Position.the-variants.{At, Nowhere}
 
 -- (r, c), r below 8L and c below C, in reading order
 unfoldable pub positions : Panel → List Position

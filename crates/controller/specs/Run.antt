@@ -4,11 +4,9 @@ use mathlib.Core.Bool.{Bool, cond, _&&_}
 use mathlib.Core.List.{List, [], _∷_}
 use lib.Dec.{ltb, eqb}
 use lib.ListN.{length, take, set}
-use Rattle.display.specs.declared.panel.Panel.{Panel}
-use Rattle.display.specs.declared.registers.Registers.{Registers}
+use Rattle.controller.specs.Types.{Panel, Registers, Ran}
 use Rattle.display.specs.State.{validPanel, validRegisters}
 use Rattle.display.specs.Frame.{lentLengths}
-use Rattle.controller.specs.declared.run.Ran.{Ran}
 use Rattle.controller.specs.Access.{Pair, Machine, machine, Step, done, answered, refused, stepOf}
 
 -- the pairs of a log, and the log of some pairs

@@ -5,15 +5,7 @@ use mathlib.Core.Bool.{Bool, true, false, cond, not, _&&_, _||_}
 use lib.Dec.{ltb, leb, eqb}
 use lib.Bits.{bitOr, bitXor, bitAnd}
 use lib.ListN.{getD}
-use Rattle.display.specs.declared.panel.Panel.{Panel}
-use Rattle.display.specs.declared.registers.Plane.{Plane}
-use Rattle.display.specs.declared.registers.Cursor.{Cursor}
-use Rattle.display.specs.declared.registers.Display.{Display}
-use Rattle.display.specs.declared.registers.Combination.{Combination}
-use Rattle.display.specs.declared.registers.Combination.the-variants.{Or, Exor, And, Attribute}
-use Rattle.display.specs.declared.attribute.Show.{Show}
-use Rattle.display.specs.declared.attribute.Show.the-variants.{Normal, Reverse, Inhibit}
-use Rattle.display.specs.declared.attribute.Look.{Look}
+use Rattle.display.specs.Types.{Panel, Plane, Cursor, Display, Combination, Or, Exor, And, Attribute, Show, Normal, Reverse, Inhibit, Look}
 
 -- home + row·area + column, modulo 65,536
 abbrev pub addressOf : Plane → ℕ → ℕ → ℕ

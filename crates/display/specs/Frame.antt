@@ -5,10 +5,7 @@ use mathlib.Core.Bool.{Bool, cond, _&&_}
 use lib.Dec.{eqb}
 use lib.ListN.{length}
 use Rattle.ground.specs.Packing.{rowBytes, dotAt, rowFrom, frameFrom}
-use Rattle.display.specs.declared.panel.Panel.{Panel}
-use Rattle.display.specs.declared.registers.Display.{Display}
-use Rattle.display.specs.declared.registers.Registers.{Registers}
-use Rattle.display.specs.declared.reply.Reply.{Reply}
+use Rattle.display.specs.Types.{Panel, Display, Registers, Reply}
 use Rattle.display.specs.State.{validPanel, validRegisters}
 use Rattle.display.specs.Displayed.{cellByte}
 

@@ -1,14 +1,7 @@
 -- 01, Panel and memory: valid panels, valid states, the reset state.
 use mathlib.Core.Bool.{Bool, true, false, _&&_, _||_}
 use lib.Dec.{ltb, leb, eqb}
-use Rattle.display.specs.declared.panel.Panel.{Panel}
-use Rattle.display.specs.declared.registers.Plane.{Plane}
-use Rattle.display.specs.declared.registers.Combination.the-variants.{Or}
-use Rattle.display.specs.declared.registers.Display.{Display}
-use Rattle.display.specs.declared.registers.Auto.the-variants.{Off}
-use Rattle.display.specs.declared.registers.Pending.{Pending}
-use Rattle.display.specs.declared.registers.Bus.{Bus}
-use Rattle.display.specs.declared.registers.Registers.{Registers}
+use Rattle.display.specs.Types.{Panel, Plane, Or, Display, Off, Pending, Bus, Registers}
 
 -- C 1 to 80, L 1 to 16, w 6 or 8
 abbrev pub validPanel : Panel → Bool

@@ -1,0 +1,24 @@
+-- The declared types that this crate's definitions are about, under one name.
+pub use Rattle.display.specs.declared.panel.Panel.{Panel}
+pub use Rattle.display.specs.declared.registers.Plane.{Plane}
+pub use Rattle.display.specs.declared.registers.Cursor.{Cursor}
+pub use Rattle.display.specs.declared.registers.Shows.{Shows}
+pub use Rattle.display.specs.declared.registers.Combination.{Combination}
+pub use Rattle.display.specs.declared.registers.Combination.the-variants.{Or, Exor, And, Attribute}
+pub use Rattle.display.specs.declared.registers.Display.{Display}
+pub use Rattle.display.specs.declared.registers.Auto.{Auto}
+pub use Rattle.display.specs.declared.registers.Auto.the-variants.{Off, Write, Read}
+pub use Rattle.display.specs.declared.registers.Pending.{Pending}
+pub use Rattle.display.specs.declared.registers.Bus.{Bus}
+pub use Rattle.display.specs.declared.registers.Registers.{Registers}
+pub use Rattle.controller.specs.declared.command.Target.{Target}
+pub use Rattle.controller.specs.declared.command.Move.{Move}
+pub use Rattle.controller.specs.declared.command.Move.the-variants.{Up, Down, Stay}
+pub use Rattle.controller.specs.declared.command.Command.{Command}
+pub use Rattle.controller.specs.declared.command.Command.the-variants.{Set, Mode, Show, Height, Run, Store, Load, Peek, Copy, Bit}
+pub use Rattle.controller.specs.declared.command.Decoded.{Decoded}
+pub use Rattle.controller.specs.declared.command.Decoded.the-variants.{Defined, Undefined}
+pub use Rattle.controller.specs.declared.position.Position.{Position}
+pub use Rattle.controller.specs.declared.position.Position.the-variants.{At, Nowhere}
+pub use Rattle.controller.specs.declared.access.Acted.{Acted}
+pub use Rattle.controller.specs.declared.run.Ran.{Ran}
