@@ -15,3 +15,4 @@ pub use Rattle.display.specs.declared.attribute.Show.{Show}
 pub use Rattle.display.specs.declared.attribute.Show.the-variants.{Normal, Reverse, Inhibit}
 pub use Rattle.display.specs.declared.attribute.Look.{Look}
 pub use Rattle.display.specs.declared.reply.Reply.{Reply}
+pub use Rattle.display.specs.declared.displayed.Shown.{Shown}

@@ -1,5 +1,9 @@
 // What the panel shows: the panel, the registers, and from them every dot.
 pub mod attribute;
+mod cell;
+pub mod displayed;
+pub mod frame;
 pub mod panel;
 pub mod registers;
 pub mod reply;
+mod row;

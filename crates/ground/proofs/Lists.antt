@@ -6,8 +6,8 @@ use native.Mathlib.Nat.{mul-le-mul-right, suc-mul, zero-mul}
 use native.Mathlib.Numerals.{add-one}
 use native.Mathlib.Decide.{decLt}
 use native.Mathlib.Omega.{arith}
-use lib.ListN.{length, getD, drop, set, length-append, length-drop, List·getD-append, drop-of-length-le}
-use lib.Seq.{getD-at, getD-append-add, drop-cons, set-at, append-snoc}
+use lib.ListN.{length, getD, take, drop, set, length-append, length-drop, List·getD-append, drop-of-length-le}
+use lib.Seq.{getD-at, getD-append-add, drop-cons, drop-at, drop-append-le, take-append-le, take-all, set-at, append-snoc}
 use Rattle.ground.specs.Lists.{build, joined}
 
 module _ {A : Type 0} where
@@ -75,6 +75,24 @@ module _ {A : Type 0} where
           ap (λ (x : ℕ). getD (joined n f ++ f n) (x * k + j) d) a
           ∙ ap (λ (x : ℕ). getD (joined n f ++ f n) (x + j) d) (sym (joined-length n k f h))
           ∙ getD-append-add (joined n f) (f n) j d ∙ ap (λ (x : ℕ). getD (f x) j d) (sym a)
+
+  -- one of them, as a stretch of the whole
+  pub joined-stretch : (n k : ℕ) (f : ℕ → List A) → ((r : ℕ) → length (f r) ≡ k) → (r : ℕ) → r < n → take k (drop (r * k) (joined n f)) ≡ f r
+  unfolding joined
+  joined-stretch zero k f h r l = absurd (omega arith)
+  joined-stretch (suc n) k f h r l = go (decLt r n) (λ q. joined-stretch n k f h r q)
+    where
+      go : Dec (r < n) → (r < n → take k (drop (r * k) (joined n f)) ≡ f r) → take k (drop (r * k) (joined n f ++ f n)) ≡ f r
+      go (yes q) e =
+          let a : suc r * k ≤ n * k = mul-le-mul-right k q in
+          let b : suc r * k ≡ r * k + k = suc-mul r k in
+          let m : length (joined n f) ≡ n * k = joined-length n k f h in
+          ap (take k) (drop-append-le (r * k) (joined n f) (f n) (omega arith))
+          ∙ take-append-le k (drop (r * k) (joined n f)) (f n) (rw length-drop (omega arith)) ∙ e q
+      go (no q) e =
+          let a : r ≡ n = omega arith in
+          ap (take k) (drop-at (joined n f) (f n) (r * k) (joined-length n k f h ∙ ap (λ (x : ℕ). x * k) (sym a)))
+          ∙ take-all k (f n) (rw (h n) (omega arith)) ∙ ap f (sym a)
 
   -- a list that is filled from the front: its first n places as built, the rest as it was
   pub filled-length : (n : ℕ) (f : ℕ → A) (l : List A) → n ≤ length l → length (build n f ++ drop n l) ≡ length l

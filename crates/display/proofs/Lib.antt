@@ -1,0 +1,4 @@
+pub mod Bounds
+pub mod Cases
+pub mod Doors
+pub mod Dots

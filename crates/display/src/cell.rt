@@ -1,0 +1,246 @@
+// The byte of a cell in a dot row.
+ghost use mathlib.Core.Path.{_≡_};
+ghost use mathlib.Core.Logic.{_⊎_};
+ghost use Prim.Native.Nat.{_-_, _/_, _%_, _^_, _≤_, _<_};
+ghost use lib.ListN.{length, getD};
+ghost use Rattle.display.specs.Displayed.{addressOf, glyphRow, attributed, isAttribute, combined, glyphDots, textDots, graphicDots, mixed, attributeByte, displayedByte, cursorLit, cursorCovers, cellByte};
+ghost use Rattle.display.specs.Drawable.{Drawable};
+use super::attribute::Show;
+use super::attribute::look_at;
+use super::panel::Panel;
+use super::registers::Combination;
+use super::registers::Cursor;
+use super::registers::Display;
+use super::registers::Plane;
+
+// The low w bits set.
+fn full(width: usize) -> u8
+    requires { ⌜ ((width ≡ 6) ⊎ (width ≡ 8)) ⌝ }
+    ensures { λ r. ⌜ r ≡ 2 ^ width - 1 ⌝ }
+{
+    if width == 6 { 63 } else { 255 }
+}
+
+// The low w bits of a byte.
+fn low(width: usize, n: u8) -> u8
+    requires { ⌜ ((width ≡ 6) ⊎ (width ≡ 8)) ⌝ }
+    ensures { λ r. ⌜ r ≡ n % 2 ^ width ⌝ }
+{
+    n & full(width)
+}
+
+// Where text or graphic has the byte of a row in a column.
+pub fn address(plane: Plane, row: usize, column: usize) -> u16
+    ensures { λ r. ⌜ r ≡ addressOf plane row column ⌝ }
+{
+    let down = ((row % 65536) * (plane.area as usize) % 65536) as u16;
+    let across = (column % 65536) as u16;
+    let start = std::num::wrapping_add_u16(plane.home, down);
+    std::num::wrapping_add_u16(start, across)
+}
+
+fn byte_at(mem: &[u8], address: u16) -> u8
+    requires { ⌜ length (now mem) ≡ 65536 ⌝ }
+    ensures { λ r. ⌜ r ≡ getD (now (mem .entry)) address 0 ⌝ }
+{
+    let at = address as usize;
+    mem[at]
+}
+
+// The glyph row of a code.
+fn glyph(display: Display, mem: &[u8], rom: &[u8], code: u8, v: usize) -> u8
+    requires { ⌜ (length (now mem) ≡ 65536) × (length (now rom) ≡ 1024) × (display .offset < 32) × (v < 8) ⌝ }
+    ensures { λ r. ⌜ r ≡ glyphRow display (now (mem .entry)) (now (rom .entry)) code v ⌝ }
+{
+    let k = code as usize;
+    if !display.external & (code < 128) {
+        let at = 8 * k + v;
+        return rom[at];
+    }
+    let from = 2048 * (display.offset as usize) + 8 * k + v;
+    mem[from]
+}
+
+// The w bits of a glyph row as an attribute byte has them shown.
+fn attribute_shows(width: usize, normal: bool, attribute: u8, dots: u8) -> u8
+    requires { ⌜ ((width ≡ 6) ⊎ (width ≡ 8)) ⌝ }
+    requires { ⌜ dots < 2 ^ width ⌝ }
+    ensures { λ r. ⌜ r ≡ attributed width normal attribute dots ⌝ }
+{
+    let look = look_at(attribute);
+    if look.blinks & !normal {
+        return 0;
+    }
+    let shown = look.shown;
+    match shown {
+        Show::Normal => dots,
+        Show::Reverse => full(width) - dots,
+        Show::Inhibit => 0,
+    }
+}
+
+fn is_attribute(combination: Combination) -> bool
+    ensures { λ r. ⌜ r ≡ isAttribute combination ⌝ }
+{
+    match combination {
+        Combination::Or => false,
+        Combination::Exor => false,
+        Combination::And => false,
+        Combination::Attribute => true,
+    }
+}
+
+// What text and graphic show together.
+pub fn combine(combination: Combination, text: u8, graphic: u8) -> u8
+    ensures { λ r. ⌜ r ≡ combined combination text graphic ⌝ }
+{
+    match combination {
+        Combination::Or => text | graphic,
+        Combination::Exor => text ^ graphic,
+        Combination::And => text & graphic,
+        Combination::Attribute => text,
+    }
+}
+
+// The w bits of a cell's glyph row.
+fn glyph_dots(
+    panel: Panel,
+    display: Display,
+    mem: &[u8],
+    rom: &[u8],
+    row: usize,
+    column: usize,
+) -> u8
+    requires { ⌜ Drawable panel display (now mem) (now rom) ⌝ }
+    ensures { λ r. ⌜ r ≡ glyphDots panel display (now (mem .entry)) (now (rom .entry)) row column ⌝ }
+{
+    let code = byte_at(mem, address(display.text, row / 8, column));
+    low(panel.width, glyph(display, mem, rom, code, row % 8))
+}
+
+// The attribute byte of a cell: one for all eight rows of its line.
+fn attribute_at(display: Display, mem: &[u8], line: usize, column: usize) -> u8
+    requires { ⌜ length (now mem) ≡ 65536 ⌝ }
+    ensures { λ r. ⌜ r ≡ attributeByte display (now (mem .entry)) line column ⌝ }
+{
+    byte_at(mem, address(display.graphic, line, column))
+}
+
+fn text_dots(
+    panel: Panel,
+    display: Display,
+    mem: &[u8],
+    rom: &[u8],
+    row: usize,
+    column: usize,
+) -> u8
+    requires { ⌜ Drawable panel display (now mem) (now rom) ⌝ }
+    ensures { λ r. ⌜ r ≡ textDots panel display (now (mem .entry)) (now (rom .entry)) row column ⌝ }
+{
+    if !display.shows.text {
+        return 0;
+    }
+    let dots = glyph_dots(panel, display, mem, rom, row, column);
+    let combination = display.combination;
+    if is_attribute(combination) & display.shows.graphic {
+        return attribute_shows(
+            panel.width,
+            display.phase,
+            attribute_at(display, mem, row / 8, column),
+            dots,
+        );
+    }
+    dots
+}
+
+fn graphic_dots(panel: Panel, display: Display, mem: &[u8], row: usize, column: usize) -> u8
+    requires { ⌜ ((panel .width ≡ 6) ⊎ (panel .width ≡ 8)) ⌝ }
+    requires { ⌜ length (now mem) ≡ 65536 ⌝ }
+    ensures { λ r. ⌜ r ≡ graphicDots panel display (now (mem .entry)) row column ⌝ }
+{
+    let combination = display.combination;
+    if display.shows.graphic & !is_attribute(combination) {
+        return low(
+            panel.width,
+            byte_at(mem, address(display.graphic, row, column)),
+        );
+    }
+    0
+}
+
+// The layers that are on, together.
+fn mix(text_on: bool, graphic_on: bool, combination: Combination, text: u8, graphic: u8) -> u8
+    ensures { λ r. ⌜ r ≡ mixed «text_on» «graphic_on» combination text graphic ⌝ }
+{
+    if text_on {
+        if graphic_on {
+            return combine(combination, text, graphic);
+        }
+        return text;
+    }
+    graphic
+}
+
+// The displayed byte.
+pub fn shown_byte(
+    panel: Panel,
+    display: Display,
+    mem: &[u8],
+    rom: &[u8],
+    row: usize,
+    column: usize,
+) -> u8
+    requires { ⌜ Drawable panel display (now mem) (now rom) ⌝ }
+    ensures { λ r. ⌜ r ≡ displayedByte panel display (now (mem .entry)) (now (rom .entry)) row column ⌝ }
+{
+    let text = text_dots(panel, display, mem, rom, row, column);
+    let graphic = graphic_dots(panel, display, mem, row, column);
+    let combination = display.combination;
+    mix(
+        display.shows.text,
+        display.shows.graphic,
+        combination,
+        text,
+        graphic,
+    )
+}
+
+fn cursor_lit(on: bool, blink: bool, normal: bool) -> bool
+    ensures { λ r. ⌜ r ≡ cursorLit on blink normal ⌝ }
+{
+    on & (!blink | normal)
+}
+
+// Whether the cursor covers a cell in its dot row v.
+fn cursor_covers(panel: Panel, cursor: Cursor, line: usize, v: usize, column: usize) -> bool
+    requires { ⌜ cursor .height ≤ 8 ⌝ }
+    ensures { λ r. ⌜ r ≡ cursorCovers panel cursor line v column ⌝ }
+{
+    let x = cursor.x as usize;
+    let y = cursor.y as usize;
+    (x < panel.columns)
+        & (y < panel.lines)
+        & (x == column)
+        & (y == line)
+        & (8 - cursor.height as usize <= v)
+}
+
+// The byte of a cell as the frame has it, the cursor laid over.
+pub fn cell_byte(
+    panel: Panel,
+    display: Display,
+    mem: &[u8],
+    rom: &[u8],
+    row: usize,
+    column: usize,
+) -> u8
+    requires { ⌜ Drawable panel display (now mem) (now rom) ⌝ }
+    ensures { λ r. ⌜ r ≡ cellByte panel display (now (mem .entry)) (now (rom .entry)) row column ⌝ }
+{
+    let lit = cursor_lit(display.shows.cursor, display.shows.blink, display.phase);
+    let covers = cursor_covers(panel, display.cursor, row / 8, row % 8, column);
+    if lit & covers {
+        return full(panel.width);
+    }
+    shown_byte(panel, display, mem, rom, row, column)
+}

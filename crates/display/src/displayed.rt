@@ -1,0 +1,50 @@
+// The displayed byte, for whoever asks.
+ghost use mathlib.Core.Path.{_≡_};
+ghost use Rattle.display.specs.Frame.{displayedOf};
+use super::cell::shown_byte;
+use super::panel::Panel;
+use super::registers::Display;
+
+// A number, its place 0, and the byte, 0 where it was refused.
+pub struct Shown {
+    pub number: u8,
+    pub place: usize,
+    pub byte: u8,
+}
+
+// The byte shown at any dot row and column, without cursor: the formulas go on modulo 65,536 past the panel.
+pub fn displayed(
+    panel: Panel,
+    display: Display,
+    mem: &[u8],
+    rom: &[u8],
+    row: usize,
+    column: usize,
+) -> Shown
+    ensures { λ r. ⌜ r ≡ displayedOf panel display (now (mem .entry)) (now (rom .entry)) row column ⌝ }
+{
+    let valid = panel.valid() & display.valid();
+    if valid {
+        let fits = (mem.len() == 65536) & (rom.len() == 1024);
+        if fits {
+            let byte = shown_byte(panel, display, mem, rom, row, column);
+            Shown {
+                number: 0,
+                place: 0,
+                byte,
+            }
+        } else {
+            Shown {
+                number: 2,
+                place: 0,
+                byte: 0,
+            }
+        }
+    } else {
+        Shown {
+            number: 1,
+            place: 0,
+            byte: 0,
+        }
+    }
+}

@@ -1,0 +1,73 @@
+// The frame: every dot row, each into its own stretch.
+ghost use mathlib.Core.Path.{_≡_};
+ghost use Prim.Native.Nat.{_*_, _≤_};
+ghost use lib.ListN.{length};
+ghost use Rattle.ground.specs.Packing.{rowBytes};
+ghost use Rattle.display.specs.Frame.{frameOf, painted, paintOf};
+ghost use Rattle.display.specs.Drawable.{Drawable};
+use super::panel::Panel;
+use super::registers::Display;
+use super::registers::Registers;
+use super::reply::Reply;
+use super::row::paint_row;
+
+// R, the bytes of a row.
+fn row_bytes(columns: usize, width: usize) -> usize
+    requires { ⌜ (columns ≤ 80) × (width ≤ 8) ⌝ }
+    ensures { λ r. ⌜ r ≡ rowBytes columns width ⌝ }
+{
+    (columns * width + 7) / 8
+}
+
+// The rows of a valid state, row r from r times R.
+fn paint_rows(
+    panel: Panel,
+    display: Display,
+    mem: &[u8],
+    rom: &[u8],
+    bytes: usize,
+    frame: &mut [u8],
+)
+    requires { ⌜ Drawable panel display (now mem) (now rom) ⌝ }
+    requires { ⌜ (bytes ≡ rowBytes (panel .columns) (panel .width)) × (length (now frame) ≡ 8 * panel .lines * bytes) ⌝ }
+    ensures { λ _. ⌜ now (frame .exit) ≡ frameOf panel display (now (mem .entry)) (now (rom .entry)) ⌝ }
+{
+    let rows = 8 * panel.lines;
+    let mut row: usize = 0;
+    while row < rows {
+        let at = row * bytes;
+        let end = at + bytes;
+        paint_row(panel, display, mem, rom, row, &mut frame[at..end]);
+        row += 1;
+    }
+}
+
+// The whole frame, or a refusal that leaves it as it was.
+pub fn paint(panel: Panel, registers: Registers, mem: &[u8], rom: &[u8], frame: &mut [u8]) -> Reply
+    ensures { λ r. ⌜ painted r (now (frame .exit)) ≡ paintOf panel registers (now (mem .entry)) (now (rom .entry)) (now (frame .entry)) ⌝ }
+{
+    let valid = panel.valid() & registers.valid();
+    if valid {
+        let bytes = row_bytes(panel.columns, panel.width);
+        let size = 8 * panel.lines * bytes;
+        let fits = (mem.len() == 65536) & (rom.len() == 1024) & (frame.len() == size);
+        if fits {
+            let display = registers.display;
+            paint_rows(panel, display, mem, rom, bytes, frame);
+            Reply {
+                number: 0,
+                place: 0,
+            }
+        } else {
+            Reply {
+                number: 2,
+                place: 0,
+            }
+        }
+    } else {
+        Reply {
+            number: 1,
+            place: 0,
+        }
+    }
+}

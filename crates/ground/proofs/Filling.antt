@@ -1,0 +1,29 @@
+-- A slice that is filled from the front by a rule of the index: what any loop that writes f 0, f 1, .. in order keeps.
+use mathlib.Core.Path.{_≡_, refl, ap, _∙_}
+use mathlib.Core.List.{List, _++_}
+use Prim.Native.Nat.{ℕ, zero, _+_, _<_, _≤_}
+use native.Mathlib.Omega.{arith}
+use lib.ListN.{length, drop, set}
+use Rattle.ground.specs.Lists.{build}
+use Rattle.ground.proofs.Lists.{filled-length, filled-more, filled-all}
+
+pub record Filled (f : ℕ → ℕ) (l₀ l : List ℕ) (n : ℕ) : Type 0 where
+  pub inside : n ≤ length l₀
+  pub holds : l ≡ build n f ++ drop n l₀
+
+module _ (f : ℕ → ℕ) (l₀ : List ℕ) where
+  pub none-yet : Filled f l₀ l₀ 0
+  unfolding build
+  none-yet = record { inside = omega arith; holds = refl }
+
+  module _ {l : List ℕ} {n : ℕ} (k : Filled f l₀ l n) where
+    pub as-long : length l ≡ length l₀
+    as-long = rw (k .holds) (filled-length n f l₀ (k .inside))
+
+    pub one-more : {v : ℕ} → n < length l₀ → v ≡ f n → Filled f l₀ (set l n v) (n + 1)
+    one-more {v} h e = record { inside = omega arith; holds = ap (λ (x : List ℕ). set x n v) (k .holds) ∙ filled-more n f l₀ v h e }
+
+    pub at-end : (m : ℕ) → length l₀ ≡ m → length l₀ ≤ n → l ≡ build m f
+    at-end m e h =
+        let i : n ≡ m = omega (arith, k .inside) in
+        k .holds ∙ filled-all n f l₀ h ∙ ap (λ (x : ℕ). build x f) i
