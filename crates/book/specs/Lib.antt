@@ -1,3 +1,4 @@
 pub mod Contents
 pub mod Operation
 pub mod Screen
+pub mod Checked

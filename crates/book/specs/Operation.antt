@@ -7,6 +7,10 @@ use lib.ListN.{length, getD, take, drop}
 use Rattle.display.specs.declared.panel.Panel.{Panel}
 use Rattle.display.specs.declared.registers.Combination.{Combination}
 use Rattle.display.specs.declared.registers.Combination.the-variants.{Or, Exor, And}
+use Rattle.book.specs.declared.operation.Placed.{Placed}
+use Rattle.book.specs.declared.operation.Placed.the-variants.{Text, Rectangle, Dot, Glyph, Cursor, Combine}
+use Rattle.book.specs.declared.operation.Found.{Found}
+use Rattle.book.specs.declared.operation.Found.the-variants.{Operation as Found-Operation, End, Faulty}
 use Rattle.book.specs.Contents.{wordAt}
 
 pub data Operation : Type 0 where
@@ -31,74 +35,87 @@ pairsFor (glyph code rows) = 13
 pairsFor (cursor line column height blink) = 5
 pairsFor (combine k) = 1
 
--- an operation with the byte behind it, or one that is unknown, cut or out of range
-pub data Reading : Type 0 where
-  reads : Operation → ℕ → Reading
-  faulty : Reading
+-- the column Pairs, added up
+unfoldable pub bodyCount : List Operation → ℕ
+bodyCount [] = 0
+bodyCount (o ∷ os) = pairsFor o + bodyCount os
 
--- an operation of so many bytes, whole before the body's end and in range
-abbrev pub sized : ℕ → ℕ → ℕ → Bool → Operation → Reading
-sized at end size inRange o = cond (leb (at + size) end && inRange) (reads o (at + size)) faulty
+-- an operation as it stands in the book, with its codes or rows
+abbrev pub operationOf : List ℕ → Placed → Operation
+operationOf book (Text line column from n) = text line column (take n (drop from book))
+operationOf book (Rectangle top column height width value) = rectangle top column height width value
+operationOf book (Dot x y on) = dot x y on
+operationOf book (Glyph code from) = glyph code (take 8 (drop from book))
+operationOf book (Cursor line column height blink) = cursor line column height blink
+operationOf book (Combine k) = combine k
+
+-- an operation of so many bytes: whole before the body's end, and in range
+abbrev pub sized : ℕ → ℕ → ℕ → Bool → Placed → Found
+sized at end size inRange o = cond (leb (at + size) end && inRange) (Found-Operation o (at + size)) Faulty
 
 -- 1 line col n codes: n 1 to 80, col + n at most C, line below L
-abbrev pub readText : Panel → List ℕ → ℕ → ℕ → Reading
+abbrev pub readText : Panel → List ℕ → ℕ → ℕ → Found
 readText p book at end =
     sized at end (4 + getD book (at + 3) 0)
     (ltb (getD book (at + 1) 0) (p .lines) && leb 1 (getD book (at + 3) 0) && leb (getD book (at + 3) 0) 80
     && leb (getD book (at + 2) 0 + getD book (at + 3) 0) (p .columns))
-    (text (getD book (at + 1) 0) (getD book (at + 2) 0) (take (getD book (at + 3) 0) (drop (at + 4) book)))
+    (Text (getD book (at + 1) 0) (getD book (at + 2) 0) (at + 4) (getD book (at + 3) 0))
 
 -- 2 top col height width value: height and width at least 1, inside the panel
-abbrev pub readRectangle : Panel → List ℕ → ℕ → ℕ → Reading
+abbrev pub readRectangle : Panel → List ℕ → ℕ → ℕ → Found
 readRectangle p book at end =
     sized at end 6
     (leb 1 (getD book (at + 3) 0) && leb 1 (getD book (at + 4) 0)
     && leb (getD book (at + 1) 0 + getD book (at + 3) 0) (8 * p .lines)
     && leb (getD book (at + 2) 0 + getD book (at + 4) 0) (p .columns))
-    (rectangle (getD book (at + 1) 0) (getD book (at + 2) 0) (getD book (at + 3) 0) (getD book (at + 4) 0) (getD book (at + 5) 0))
+    (Rectangle (getD book (at + 1) 0) (getD book (at + 2) 0) (getD book (at + 3) 0) (getD book (at + 4) 0) (getD book (at + 5) 0))
 
 -- 3 xlow xhigh y v: x below C·w, y below 8L, v 0 or 1
-abbrev pub readDot : Panel → List ℕ → ℕ → ℕ → Reading
+abbrev pub readDot : Panel → List ℕ → ℕ → ℕ → Found
 readDot p book at end =
     sized at end 5
     (ltb (wordAt book (at + 1)) (p .columns * p .width) && ltb (getD book (at + 3) 0) (8 * p .lines)
     && leb (getD book (at + 4) 0) 1)
-    (dot (wordAt book (at + 1)) (getD book (at + 3) 0) (eqb (getD book (at + 4) 0) 1))
+    (Dot (wordAt book (at + 1)) (getD book (at + 3) 0) (eqb (getD book (at + 4) 0) 1))
 
 -- 4 code eight rows: code 80H or more
-abbrev pub readGlyph : Panel → List ℕ → ℕ → ℕ → Reading
+abbrev pub readGlyph : Panel → List ℕ → ℕ → ℕ → Found
 readGlyph p book at end =
     sized at end 10
     (leb 0x80 (getD book (at + 1) 0))
-    (glyph (getD book (at + 1) 0) (take 8 (drop (at + 2) book)))
+    (Glyph (getD book (at + 1) 0) (at + 2))
 
 -- 5 line col height blink: line below L, col below C, height 1 to 8, blink 0 or 1
-abbrev pub readCursor : Panel → List ℕ → ℕ → ℕ → Reading
+abbrev pub readCursor : Panel → List ℕ → ℕ → ℕ → Found
 readCursor p book at end =
     sized at end 5
     (ltb (getD book (at + 1) 0) (p .lines) && ltb (getD book (at + 2) 0) (p .columns) && leb 1 (getD book (at + 3) 0)
     && leb (getD book (at + 3) 0) 8 && leb (getD book (at + 4) 0) 1)
-    (cursor (getD book (at + 1) 0) (getD book (at + 2) 0) (getD book (at + 3) 0) (eqb (getD book (at + 4) 0) 1))
+    (Cursor (getD book (at + 1) 0) (getD book (at + 2) 0) (getD book (at + 3) 0) (eqb (getD book (at + 4) 0) 1))
 
 -- 0 OR, 1 EXOR, 2 AND
 abbrev pub combinationOf : ℕ → Combination
 combinationOf k = cond (eqb k 0) Or (cond (eqb k 1) Exor And)
 
 -- 6 k
-abbrev pub readCombine : List ℕ → ℕ → ℕ → Reading
+abbrev pub readCombine : List ℕ → ℕ → ℕ → Found
 readCombine book at end =
-    sized at end 2 (leb (getD book (at + 1) 0) 2) (combine (combinationOf (getD book (at + 1) 0)))
+    sized at end 2 (leb (getD book (at + 1) 0) 2) (Combine (combinationOf (getD book (at + 1) 0)))
 
--- the operation at a byte of the book, in a body that ends before end
-unfoldable pub operationAt : Panel → List ℕ → ℕ → ℕ → Reading
-operationAt p book at end =
+-- an operation begins at a byte of the book, in a body that ends before end
+unfoldable pub foundHere : Panel → List ℕ → ℕ → ℕ → Found
+foundHere p book at end =
     cond (eqb (getD book at 0) 1) (readText p book at end)
     (cond (eqb (getD book at 0) 2) (readRectangle p book at end)
     (cond (eqb (getD book at 0) 3) (readDot p book at end)
     (cond (eqb (getD book at 0) 4) (readGlyph p book at end)
     (cond (eqb (getD book at 0) 5) (readCursor p book at end)
     (cond (eqb (getD book at 0) 6) (readCombine book at end)
-    faulty)))))
+    Faulty)))))
+
+-- what reading finds at a byte: the body's end, an operation, or a faulty one; a body that passes the book has none
+unfoldable pub foundAt : Panel → List ℕ → ℕ → ℕ → Found
+foundAt p book at end = cond (leb end at) End (cond (leb end (length book)) (foundHere p book at end) Faulty)
 
 -- where a dot stands: the graphic byte, and in it bit w-1-(x mod w)
 abbrev pub dotByte : Panel → ℕ → ℕ → ℕ

@@ -1,11 +1,28 @@
 -- 01, Screens, and Numbers returned: a screen of a book asked for by its number.
 use Prim.Native.Nat.{ℕ, zero, suc, _-_}
-use mathlib.Core.Bool.{cond}
 use mathlib.Core.List.{List, [], _∷_}
-use lib.Dec.{leb}
 use Rattle.display.specs.declared.panel.Panel.{Panel}
+use Rattle.book.specs.declared.contents.Asked.{Asked}
+use Rattle.book.specs.declared.contents.Asked.the-variants.{Body as Asked-Body, Refused}
+use Rattle.book.specs.declared.operation.Placed.{Placed}
+use Rattle.book.specs.declared.operation.Found.{Found}
+use Rattle.book.specs.declared.operation.Found.the-variants.{Operation as Found-Operation, End, Faulty}
 use Rattle.book.specs.Contents.{Body, Contents, sound, wrong, contentsOf}
-use Rattle.book.specs.Operation.{Operation, Reading, reads, faulty, operationAt}
+use Rattle.book.specs.Operation.{Operation, operationOf, foundAt}
+
+-- 10 screen number n or more
+abbrev pub bodyAt : List Body → ℕ → Asked
+bodyAt [] number = Refused 10 0
+bodyAt (b ∷ bs) zero = Asked-Body (b .start) (b .end)
+bodyAt (b ∷ bs) (suc number) = bodyAt bs number
+
+abbrev pub bodyIn : Contents → ℕ → Asked
+bodyIn (sound bodies) number = bodyAt bodies number
+bodyIn (wrong place) number = Refused 9 place
+
+-- 9, then 10, else the body
+unfoldable pub askedOf : List ℕ → ℕ → Asked
+askedOf book number = bodyIn (contentsOf book) number
 
 -- a screen's operations, or a refusal with its place
 pub data Screen : Type 0 where
@@ -16,32 +33,22 @@ abbrev pub withOperation : Operation → Screen → Screen
 withOperation o (screen os) = screen (o ∷ os)
 withOperation o (refused n place) = refused n place
 
-abbrev pub afterReading : Reading → (Operation → ℕ → Screen) → Screen → Screen
-afterReading (reads o next) on off = on o next
-afterReading faulty on off = off
+abbrev pub afterFound : Found → (Placed → ℕ → Screen) → Screen → Screen → Screen
+afterFound (Found-Operation o next) on end off = on o next
+afterFound End on end off = end
+afterFound Faulty on end off = off
 
 -- the operations from a byte on, at most n of them; 11 for the first faulty one, with its byte in the book
 unfoldable pub operationsFrom : ℕ → Panel → List ℕ → ℕ → ℕ → Screen
-operationsFrom zero p book at end = cond (leb end at) (screen []) (refused 11 at)
+operationsFrom zero p book at end = screen []
 operationsFrom (suc n) p book at end =
-    cond (leb end at)
-    (screen [])
-    (afterReading (operationAt p book at end) (λ o next. withOperation o (operationsFrom n p book next end)) (refused 11 at))
+    afterFound (foundAt p book at end) (λ o next. withOperation (operationOf book o) (operationsFrom n p book next end)) (screen []) (refused 11 at)
 
 -- a body has no more operations than bytes
-unfoldable pub bodyOf : Panel → List ℕ → Body → Screen
-bodyOf p book b = operationsFrom (b .end - b .start) p book (b .start) (b .end)
+abbrev pub screenIn : Panel → List ℕ → Asked → Screen
+screenIn p book (Asked-Body start end) = operationsFrom (end - start) p book start end
+screenIn p book (Refused n place) = refused n place
 
--- 10 screen number n or more
-abbrev pub screenAt : Panel → List ℕ → List Body → ℕ → Screen
-screenAt p book [] number = refused 10 0
-screenAt p book (b ∷ bs) zero = bodyOf p book b
-screenAt p book (b ∷ bs) (suc number) = screenAt p book bs number
-
-abbrev pub screenIn : Panel → List ℕ → Contents → ℕ → Screen
-screenIn p book (sound bodies) number = screenAt p book bodies number
-screenIn p book (wrong place) number = refused 9 place
-
--- 9, then 10, then 11
+-- 9, then 10, then 11, else the operations
 unfoldable pub screenOf : Panel → List ℕ → ℕ → Screen
-screenOf p book number = screenIn p book (contentsOf book) number
+screenOf p book number = screenIn p book (askedOf book number)

@@ -8,7 +8,7 @@ use Rattle.display.specs.declared.panel.Panel.{Panel}
 use Rattle.display.specs.declared.registers.Combination.{Combination}
 use Rattle.display.specs.declared.registers.Combination.the-variants.{Or, Exor, And, Attribute}
 use Rattle.controller.specs.Access.{Pair}
-use Rattle.book.specs.Operation.{Operation, text, rectangle, dot, glyph, cursor, combine, pairsFor, dotByte, dotBit}
+use Rattle.book.specs.Operation.{Operation, text, rectangle, dot, glyph, cursor, combine, bodyCount, dotByte, dotBit}
 
 -- a data write, and a command
 abbrev pub datum : ℕ → Pair
@@ -88,11 +88,6 @@ bodyPairs p (o ∷ os) = operationPairs p o ++ bodyPairs p os
 
 unfoldable pub streamOf : Panel → List Operation → List Pair
 streamOf p os = opening p ++ bodyPairs p os
-
--- the column Pairs, added up
-unfoldable pub bodyCount : List Operation → ℕ
-bodyCount [] = 0
-bodyCount (o ∷ os) = pairsFor o + bodyCount os
 
 -- the opening takes 1057 + 9·C·L pairs
 unfoldable pub countOf : Panel → List Operation → ℕ
