@@ -3,8 +3,7 @@ use Prim.Native.Nat.{ℕ, _+_, _/_, _%_}
 use mathlib.Core.Bool.{Bool, true, false, cond}
 use lib.Dec.{ltb, eqb}
 use Rattle.ground.specs.Bytes.{bitOf}
-use Rattle.controller.specs.Types.{Auto, Off, Write, Read, Or, Exor, And, Attribute, Up, Down, Stay, Command, Set, Mode, Show, Height, Run, Store, Load, Peek, Copy, Bit, Decoded, Defined, Undefined}
-use Rattle.controller.specs.declared.command.Target.the-variants.{Cursor, Offset, Pointer, TextHome, TextArea, GraphicHome, GraphicArea}
+use Rattle.codes.specs.Types.{Or, Exor, And, Attribute, Auto, Off, Write, Read, Cursor, Offset, Pointer, TextHome, TextArea, GraphicHome, GraphicArea, Up, Down, Stay, Command, Set, Mode, Show, Height, Run, Store, Load, Peek, Copy, Bit, Decoded, Defined, Undefined}
 
 -- bit k of a code
 abbrev pub has : ℕ → ℕ → Bool
@@ -68,9 +67,9 @@ transferOf low =
 abbrev pub screenOf : ℕ → Decoded
 screenOf low = cond (eqb low 0) (Defined Peek) (cond (eqb low 8) (Defined Copy) Undefined)
 
--- F0H-FFH: bit (code mod 8), F0H up reset, F8H up set
+-- F0H-FFH: F0H up reset, F8H up set, the bit (code mod 8)
 abbrev pub bitCodeOf : ℕ → Decoded
-bitCodeOf low = Defined (Bit (has low 3) (low % 8))
+bitCodeOf low = Defined (Bit (has low 3) low)
 
 abbrev pub groupOf : ℕ → ℕ → Decoded
 groupOf high low =

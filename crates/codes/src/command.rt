@@ -1,6 +1,6 @@
-// The 66 defined command codes, taken apart.
+// The commands.
 ghost use mathlib.Core.Path.{_≡_};
-ghost use Rattle.controller.specs.Command.{neededOf};
+ghost use Rattle.codes.specs.Command.{neededOf, endsAuto, isOff};
 use display::registers::Auto;
 use display::registers::Combination;
 use display::registers::Shows;
@@ -25,6 +25,7 @@ pub enum Move {
 
 pub enum Command {
     Set(Target),
+    // external, combination
     Mode(bool, Combination),
     Show(Shows),
     Height(u8),
@@ -33,28 +34,54 @@ pub enum Command {
     Load(Move),
     Peek,
     Copy,
+    // set or reset, and the code, whose low three bits say which bit
     Bit(bool, u8),
 }
 
-pub enum Decoded {
-    Defined(Command),
-    Undefined,
+pub fn is_off(auto: Auto) -> bool
+    ensures { λ r. ⌜ r ≡ isOff auto ⌝ }
+{
+    match auto {
+        Auto::Off => true,
+        Auto::Write => false,
+        Auto::Read => false,
+    }
 }
 
-// How many data a command needs.
-pub(crate) fn needed(command: Command) -> u8
-    ensures { λ r. ⌜ r ≡ neededOf command ⌝ }
-{
-    match command {
-        Command::Set(_) => 2,
-        Command::Mode(_, _) => 0,
-        Command::Show(_) => 0,
-        Command::Height(_) => 0,
-        Command::Run(_) => 0,
-        Command::Store(_) => 1,
-        Command::Load(_) => 0,
-        Command::Peek => 0,
-        Command::Copy => 0,
-        Command::Bit(_, _) => 0,
+impl Command {
+    // How many data it needs.
+    pub fn needed(self) -> u8
+        ensures { λ r. ⌜ r ≡ neededOf self ⌝ }
+    {
+        match self {
+            Command::Set(_) => 2,
+            Command::Mode(_, _) => 0,
+            Command::Show(_) => 0,
+            Command::Height(_) => 0,
+            Command::Run(_) => 0,
+            Command::Store(_) => 1,
+            Command::Load(_) => 0,
+            Command::Peek => 0,
+            Command::Copy => 0,
+            Command::Bit(_, _) => 0,
+        }
+    }
+
+    // Whether it is B2H, the one code taken in auto.
+    pub fn ends_auto(self) -> bool
+        ensures { λ r. ⌜ r ≡ endsAuto self ⌝ }
+    {
+        match self {
+            Command::Set(_) => false,
+            Command::Mode(_, _) => false,
+            Command::Show(_) => false,
+            Command::Height(_) => false,
+            Command::Run(auto) => is_off(auto),
+            Command::Store(_) => false,
+            Command::Load(_) => false,
+            Command::Peek => false,
+            Command::Copy => false,
+            Command::Bit(_, _) => false,
+        }
     }
 }

@@ -1,2 +1,5 @@
+pub mod Acts
+pub mod Lines
 pub mod Positions
 pub mod Pushes
+pub mod Readied

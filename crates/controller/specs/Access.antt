@@ -1,5 +1,5 @@
 -- 01, Bus pairs, and peek and copy of A displayed byte: what one pair does.
-use Prim.Native.Nat.{ℕ, _+_, _-_}
+use Prim.Native.Nat.{ℕ, _+_, _-_, _%_}
 use mathlib.Core.Bool.{Bool, true, false, cond, not, _&&_, _||_}
 use mathlib.Core.List.{List}
 use lib.Dec.{leb, eqb}
@@ -10,7 +10,7 @@ use Rattle.controller.specs.Types.{Panel, Auto, Off, Write, Read, Bus, R
 use Rattle.display.specs.State.{validPanel, validRegisters, none}
 use Rattle.display.specs.Displayed.{addressOf, displayedByte, isAttribute}
 use Rattle.display.specs.Frame.{lentLengths}
-use Rattle.controller.specs.Command.{decodeOf, neededOf, isOff, endsAuto}
+use Rattle.codes.specs.Command.{decodeOf, neededOf, isOff, endsAuto}
 use Rattle.controller.specs.Effect.{withDisplay, withBus, withMode, withShows, withCursor, withPhase, withPointer, withAuto, withPending, withLatch, withError, pushed, movedOf, setOf, statusOf}
 use Rattle.controller.specs.Position.{positionOf}
 
@@ -76,7 +76,7 @@ effectOf p rom s Peek =
 effectOf p rom s Copy = copyOf p rom s (positionOf p (s .registers .display .graphic) (s .registers .bus .pointer))
 effectOf p rom s (Bit on k) =
     machine (s .registers)
-    (set (s .memory) (s .registers .bus .pointer) (withBit (getD (s .memory) (s .registers .bus .pointer) 0) k on))
+    (set (s .memory) (s .registers .bus .pointer) (withBit (getD (s .memory) (s .registers .bus .pointer) 0) (k % 8) on))
 
 -- an accepted command leaves no data pending
 abbrev pub dropped : Machine → Machine
@@ -129,8 +129,11 @@ pub record Accessed : Type 0 where
   pub acted : Acted
   pub memory : List ℕ
 
+abbrev pub replied : Acted → List ℕ → Accessed
+replied a m = record { acted = a; memory = m }
+
 abbrev pub accessed : ℕ → Registers → ℕ → List ℕ → Accessed
-accessed n r b m = record { acted = record { number = n; place = 0; registers = r; answer = b }; memory = m }
+accessed n r b m = replied (record { number = n; place = 0; registers = r; answer = b }) m
 
 -- a single access counts as pair 0 and returns its read byte, or 0; a refused one changes nothing
 abbrev pub actedOf : Registers → List ℕ → Step Machine → Accessed

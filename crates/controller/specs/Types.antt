@@ -11,14 +11,15 @@ pub use Rattle.display.specs.declared.registers.Auto.the-variants.{Off, Write, 
 pub use Rattle.display.specs.declared.registers.Pending.{Pending}
 pub use Rattle.display.specs.declared.registers.Bus.{Bus}
 pub use Rattle.display.specs.declared.registers.Registers.{Registers}
-pub use Rattle.controller.specs.declared.command.Target.{Target}
-pub use Rattle.controller.specs.declared.command.Move.{Move}
-pub use Rattle.controller.specs.declared.command.Move.the-variants.{Up, Down, Stay}
-pub use Rattle.controller.specs.declared.command.Command.{Command}
-pub use Rattle.controller.specs.declared.command.Command.the-variants.{Set, Mode, Show, Height, Run, Store, Load, Peek, Copy, Bit}
-pub use Rattle.controller.specs.declared.command.Decoded.{Decoded}
-pub use Rattle.controller.specs.declared.command.Decoded.the-variants.{Defined, Undefined}
+pub use Rattle.codes.specs.declared.command.Target.{Target}
+pub use Rattle.codes.specs.declared.command.Move.{Move}
+pub use Rattle.codes.specs.declared.command.Move.the-variants.{Up, Down, Stay}
+pub use Rattle.codes.specs.declared.command.Command.{Command}
+pub use Rattle.codes.specs.declared.command.Command.the-variants.{Set, Mode, Show, Height, Run, Store, Load, Peek, Copy, Bit}
+pub use Rattle.codes.specs.declared.decode.Decoded.{Decoded}
+pub use Rattle.codes.specs.declared.decode.Decoded.the-variants.{Defined, Undefined}
 pub use Rattle.controller.specs.declared.position.Position.{Position}
 pub use Rattle.controller.specs.declared.position.Position.the-variants.{At, Nowhere}
 pub use Rattle.controller.specs.declared.access.Acted.{Acted}
+pub use Rattle.controller.specs.declared.line.Line.{Line}
 pub use Rattle.controller.specs.declared.run.Ran.{Ran}

@@ -1,5 +1,8 @@
-// The controller acting on bus pairs: command codes, one access, peek and copy, the run of a log.
+// The controller acting on bus pairs: one access, peek and copy, the run of a log.
 pub mod access;
-pub mod command;
+mod copy;
+mod effect;
+mod line;
+mod peek;
 pub mod position;
 pub mod run;

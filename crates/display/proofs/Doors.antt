@@ -110,6 +110,13 @@ module _ (p : Panel) (d : Display) (mem rom : List ℕ) (r c : ℕ) {a b : Bool}
   pub asked-drawable : (a && b) ≡ true → lentLengths mem rom ≡ true → Drawable p d mem rom
   asked-drawable e l = drawable p d mem rom (sym i ∙ both-left a b e) (sym j ∙ both-right a b e) l
 
+-- past the tests it is the byte
+pub displayed-is : (p : Panel) (d : Display) (mem rom : List ℕ) (r c : ℕ) → validPanel p ≡ true → validDisplay d ≡ true → lentLengths mem rom ≡ true
+    → displayedOf p d mem rom r c ≡ shownOf 0 (displayedByte p d mem rom r c)
+unfolding displayedOf
+displayed-is p d mem rom r c i j l =
+    λ k. cond (i k && j k) (cond (l k) (shownOf 0 (displayedByte p d mem rom r c)) (shownOf 2 0)) (shownOf 1 0)
+
 -- a frame painted
 module _ (p : Panel) (r : Registers) (mem rom frame : List ℕ) {a b : Bool} (i : a ≡ validPanel p) (j : b ≡ validRegisters r) where
   painting : (v : Bool) → (a && b) ≡ v

@@ -3,10 +3,12 @@ ghost use mathlib.Core.Path.{_≡_};
 ghost use mathlib.Core.Logic.{_⊎_};
 ghost use Prim.Native.Nat.{_-_, _/_, _%_, _^_, _≤_, _<_};
 ghost use lib.ListN.{length, getD};
-ghost use Rattle.display.specs.Displayed.{addressOf, glyphRow, attributed, isAttribute, combined, glyphDots, textDots, graphicDots, mixed, attributeByte, displayedByte, cursorLit, cursorCovers, cellByte};
+ghost use Rattle.display.specs.Displayed.{addressOf, glyphRow, attributed, glyphDots, textDots, graphicDots, mixed, attributeByte, displayedByte, cursorLit, cursorCovers, cellByte};
 ghost use Rattle.display.specs.Drawable.{Drawable};
 use super::attribute::Show;
 use super::attribute::look_at;
+use super::combination::combine;
+use super::combination::is_attribute;
 use super::panel::Panel;
 use super::registers::Combination;
 use super::registers::Cursor;
@@ -76,29 +78,6 @@ fn attribute_shows(width: usize, normal: bool, attribute: u8, dots: u8) -> u8
         Show::Normal => dots,
         Show::Reverse => full(width) - dots,
         Show::Inhibit => 0,
-    }
-}
-
-fn is_attribute(combination: Combination) -> bool
-    ensures { λ r. ⌜ r ≡ isAttribute combination ⌝ }
-{
-    match combination {
-        Combination::Or => false,
-        Combination::Exor => false,
-        Combination::And => false,
-        Combination::Attribute => true,
-    }
-}
-
-// What text and graphic show together.
-pub fn combine(combination: Combination, text: u8, graphic: u8) -> u8
-    ensures { λ r. ⌜ r ≡ combined combination text graphic ⌝ }
-{
-    match combination {
-        Combination::Or => text | graphic,
-        Combination::Exor => text ^ graphic,
-        Combination::And => text & graphic,
-        Combination::Attribute => text,
     }
 }
 

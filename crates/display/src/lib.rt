@@ -1,6 +1,7 @@
 // What the panel shows: the panel, the registers, and from them every dot.
 pub mod attribute;
 mod cell;
+pub mod combination;
 pub mod displayed;
 pub mod frame;
 pub mod panel;

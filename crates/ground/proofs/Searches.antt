@@ -7,7 +7,37 @@ use native.Mathlib.Decide.{decLt}
 use native.Mathlib.Omega.{arith}
 use Rattle.ground.specs.Lists.{build, joined, firstOf}
 
+-- every element has a property
+pub data Each {A : Type 0} (P : A → Type 0) : List A → Type 0 where
+  nothing : Each P []
+  also : {x : A} {xs : List A} → P x → Each P xs → Each P (x ∷ xs)
+
+module _ {A : Type 0} (P : A → Type 0) where
+  pub each-both : {xs ys : List A} → Each P xs → Each P ys → Each P (xs ++ ys)
+  each-both nothing q = q
+  each-both (also h p) q = also h (each-both p q)
+
+  pub each-built : (n : ℕ) (f : ℕ → A) → ((i : ℕ) → i < n → P (f i)) → Each P (build n f)
+  unfolding build
+  each-built zero f h = nothing
+  each-built (suc n) f h = each-both (each-built n f (λ i l. h i (omega arith))) (also (h n (omega arith)) nothing)
+
+  pub each-joined : (n : ℕ) (f : ℕ → List A) → ((r : ℕ) → r < n → Each P (f r)) → Each P (joined n f)
+  unfolding joined
+  each-joined zero f h = nothing
+  each-joined (suc n) f h = each-both (each-joined n f (λ i l. h i (omega arith))) (h n (omega arith))
+
 module _ {A : Type 0} (test : A → Bool) where
+  -- what is found has what every element that passes has, or is the default
+  pub first-has : (P : A → Type 0) (d : A) → P d → {xs : List A} → Each (λ x. test x ≡ true → P x) xs → P (firstOf test d xs)
+  unfolding firstOf
+  first-has P d k nothing = k
+  first-has P d k (also {x} {xs} h p) = go (test x) h (first-has P d k p)
+    where
+      go : (t : Bool) → (t ≡ true → P x) → P (firstOf test d xs) → P (cond t x (firstOf test d xs))
+      go true g r = g refl
+      go false g r = r
+
   -- no element passes the test
   pub data Passed : List A → Type 0 where
     none : Passed []

@@ -1,6 +1,7 @@
 // Bits of a byte, and two bytes as a word.
 ghost use mathlib.Core.Path.{_≡_};
-ghost use Rattle.ground.specs.Bytes.{bitOf, wordOf};
+ghost use Rattle.ground.specs.Bytes.{bitOf, withBit, wordOf};
+ghost use Prim.Native.Nat.{_%_};
 
 // Bit `at` of a byte, 0 above its eight.
 pub fn bit(byte: u8, at: usize) -> u8
@@ -17,4 +18,12 @@ pub fn word(low: u8, high: u8) -> u16
     ensures { λ r. ⌜ r ≡ wordOf low high ⌝ }
 {
     low as u16 + 256 * (high as u16)
+}
+
+// A byte with a bit set or reset, the bit counted modulo 8.
+pub fn with_bit(byte: u8, at: u8, on: bool) -> u8
+    ensures { λ r. ⌜ r ≡ withBit byte (at % 8) on ⌝ }
+{
+    let mask: u8 = 1 << (at % 8);
+    if on { byte | mask } else { byte & (255 - mask) }
 }

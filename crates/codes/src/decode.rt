@@ -1,0 +1,133 @@
+// The 66 defined codes, by their high and low four bits.
+ghost use mathlib.Core.Path.{_≡_};
+ghost use Rattle.codes.specs.Command.{registerOf, controlOf, modeOf, showOf, heightOf, runOf, transferOf, screenOf, bitCodeOf, decodeOf};
+use super::command::Command;
+use super::command::Move;
+use super::command::Target;
+use display::registers::Auto;
+use display::registers::Combination;
+use display::registers::Shows;
+
+// A code is a command, or undefined.
+pub enum Decoded {
+    Defined(Command),
+    Undefined,
+}
+
+fn register(low: u8) -> Decoded
+    ensures { λ r. ⌜ r ≡ registerOf low ⌝ }
+{
+    match low {
+        1 => Decoded::Defined(Command::Set(Target::Cursor)),
+        2 => Decoded::Defined(Command::Set(Target::Offset)),
+        4 => Decoded::Defined(Command::Set(Target::Pointer)),
+        _ => Decoded::Undefined,
+    }
+}
+
+fn control(low: u8) -> Decoded
+    ensures { λ r. ⌜ r ≡ controlOf low ⌝ }
+{
+    match low {
+        0 => Decoded::Defined(Command::Set(Target::TextHome)),
+        1 => Decoded::Defined(Command::Set(Target::TextArea)),
+        2 => Decoded::Defined(Command::Set(Target::GraphicHome)),
+        3 => Decoded::Defined(Command::Set(Target::GraphicArea)),
+        _ => Decoded::Undefined,
+    }
+}
+
+fn mode(low: u8) -> Decoded
+    ensures { λ r. ⌜ r ≡ modeOf low ⌝ }
+{
+    let external = (low >> 3) % 2 == 1;
+    let kind = low % 8;
+    match kind {
+        0 => Decoded::Defined(Command::Mode(external, Combination::Or)),
+        1 => Decoded::Defined(Command::Mode(external, Combination::Exor)),
+        3 => Decoded::Defined(Command::Mode(external, Combination::And)),
+        4 => Decoded::Defined(Command::Mode(external, Combination::Attribute)),
+        _ => Decoded::Undefined,
+    }
+}
+
+fn show(low: u8) -> Decoded
+    ensures { λ r. ⌜ r ≡ showOf low ⌝ }
+{
+    Decoded::Defined(Command::Show(Shows {
+        graphic: (low >> 3) % 2 == 1,
+        text: (low >> 2) % 2 == 1,
+        cursor: (low >> 1) % 2 == 1,
+        blink: (low >> 0) % 2 == 1,
+    }))
+}
+
+fn height(low: u8) -> Decoded
+    ensures { λ r. ⌜ r ≡ heightOf low ⌝ }
+{
+    if low < 8 {
+        Decoded::Defined(Command::Height(low + 1))
+    } else {
+        Decoded::Undefined
+    }
+}
+
+fn run(low: u8) -> Decoded
+    ensures { λ r. ⌜ r ≡ runOf low ⌝ }
+{
+    match low {
+        0 => Decoded::Defined(Command::Run(Auto::Write)),
+        1 => Decoded::Defined(Command::Run(Auto::Read)),
+        2 => Decoded::Defined(Command::Run(Auto::Off)),
+        _ => Decoded::Undefined,
+    }
+}
+
+fn transfer(low: u8) -> Decoded
+    ensures { λ r. ⌜ r ≡ transferOf low ⌝ }
+{
+    match low {
+        0 => Decoded::Defined(Command::Store(Move::Up)),
+        1 => Decoded::Defined(Command::Load(Move::Up)),
+        2 => Decoded::Defined(Command::Store(Move::Down)),
+        3 => Decoded::Defined(Command::Load(Move::Down)),
+        4 => Decoded::Defined(Command::Store(Move::Stay)),
+        5 => Decoded::Defined(Command::Load(Move::Stay)),
+        _ => Decoded::Undefined,
+    }
+}
+
+fn screen(low: u8) -> Decoded
+    ensures { λ r. ⌜ r ≡ screenOf low ⌝ }
+{
+    match low {
+        0 => Decoded::Defined(Command::Peek),
+        8 => Decoded::Defined(Command::Copy),
+        _ => Decoded::Undefined,
+    }
+}
+
+fn bit_code(low: u8) -> Decoded
+    ensures { λ r. ⌜ r ≡ bitCodeOf low ⌝ }
+{
+    Decoded::Defined(Command::Bit((low >> 3) % 2 == 1, low))
+}
+
+pub fn decode(code: u8) -> Decoded
+    ensures { λ r. ⌜ r ≡ decodeOf code ⌝ }
+{
+    let high = code / 16;
+    let low = code % 16;
+    match high {
+        2 => register(low),
+        4 => control(low),
+        8 => mode(low),
+        9 => show(low),
+        10 => height(low),
+        11 => run(low),
+        12 => transfer(low),
+        14 => screen(low),
+        15 => bit_code(low),
+        _ => Decoded::Undefined,
+    }
+}

@@ -1,0 +1,3 @@
+// The command codes, taken apart.
+pub mod command;
+pub mod decode;
