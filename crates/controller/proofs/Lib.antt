@@ -1,4 +1,5 @@
 pub mod Acts
+pub mod Laws
 pub mod Lines
 pub mod Positions
 pub mod Pushes

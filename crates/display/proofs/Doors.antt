@@ -1,16 +1,17 @@
 -- What holds past the tests at the door, and what each of them answers.
-use mathlib.Core.Path.{_≡_, ap, sym, _∙_}
+use mathlib.Core.Path.{_≡_, refl, ap, sym, _∙_}
 use mathlib.Core.List.{List}
 use mathlib.Core.Bool.{Bool, true, false, cond, _&&_, _||_}
 use mathlib.Core.Logic.{_⊎_, inl, inr, ⊎-elim}
 use Prim.Native.Nat.{ℕ, _*_, _<_, _≤_}
+use native.Mathlib.Decide.{decLt}
 use native.Mathlib.Omega.{arith}
 use lib.Dec.{ltb, leb, eqb}
 use lib.ListN.{length}
-use borrow.Author.Tests.{leb-true, ltb-true, eqb-true}
-use Rattle.ground.proofs.Tests.{both-left, both-right, either, settled}
+use borrow.Author.Tests.{leb-true, ltb-true, eqb-true, le-leb, lt-ltb, eq-eqb}
+use Rattle.ground.proofs.Tests.{both, both-left, both-right, either, settled}
 use Rattle.ground.specs.Packing.{rowBytes}
-use Rattle.display.specs.Types.{Panel, Display, Registers, Reply, Shown}
+use Rattle.display.specs.Types.{Panel, Cursor, Display, Pending, Bus, Registers, Reply, Shown}
 use Rattle.display.specs.State.{validPanel, validDisplay, validBus, validRegisters}
 use Rattle.display.specs.Displayed.{displayedByte}
 use Rattle.display.specs.Frame.{frameOf, lentLengths, frameFits, replyOf, Painted, painted, paintOf, shownOf, displayedOf}
@@ -48,15 +49,15 @@ narrow q = ⊎-elim (λ e. omega arith) (λ e. omega arith) (q .width)
 pub past : (p : Panel) {a : Bool} (b : Bool) → a ≡ validPanel p → (a && b) ≡ true → Panelled p
 past p {a} b i e = panelled p (sym i ∙ both-left a b e)
 
--- a valid display group, as facts
-pub record Displaying (d : Display) : Type 0 where
-  pub x : d .cursor .x < 128
-  pub y : d .cursor .y < 32
-  pub offset : d .offset < 32
-  pub some-height : 1 ≤ d .cursor .height
-  pub height : d .cursor .height ≤ 8
+-- a valid display group, as facts about the registers that can be out of range
+pub record Displaying (k : Cursor) (o : ℕ) : Type 0 where
+  pub x : k .x < 128
+  pub y : k .y < 32
+  pub offset : o < 32
+  pub some-height : 1 ≤ k .height
+  pub height : k .height ≤ 8
 
-pub displaying : (d : Display) → validDisplay d ≡ true → Displaying d
+pub displaying : (d : Display) → validDisplay d ≡ true → Displaying (d .cursor) (d .offset)
 displaying d e =
     let four : (ltb (d .cursor .x) 128 && ltb (d .cursor .y) 32 && ltb (d .offset) 32 && leb 1 (d .cursor .height)) ≡ true = both-left _ (leb (d .cursor .height) 8) e in
     let three : (ltb (d .cursor .x) 128 && ltb (d .cursor .y) 32 && ltb (d .offset) 32) ≡ true = both-left _ (leb 1 (d .cursor .height)) four in
@@ -68,6 +69,53 @@ displaying d e =
       some-height = leb-true 1 (d .cursor .height) (both-right (ltb (d .cursor .x) 128 && ltb (d .cursor .y) 32 && ltb (d .offset) 32) _ four);
       height = leb-true (d .cursor .height) 8 (both-right (ltb (d .cursor .x) 128 && ltb (d .cursor .y) 32 && ltb (d .offset) 32 && leb 1 (d .cursor .height)) _ e);
     }
+
+pub display-valid : (d : Display) → Displaying (d .cursor) (d .offset) → validDisplay d ≡ true
+display-valid d k =
+    both (both (both (both (lt-ltb (d .cursor .x) 128 (k .x)) (lt-ltb (d .cursor .y) 32 (k .y))) (lt-ltb (d .offset) 32 (k .offset)))
+    (le-leb 1 (d .cursor .height) (k .some-height))) (le-leb (d .cursor .height) 8 (k .height))
+
+-- a valid bus group, as facts: of the places the unused hold 0
+pub record Bussing (q : Pending) : Type 0 where
+  pub count : q .count ≤ 2
+  pub older : q .count < 2 → q .older ≡ 0
+  pub newest : q .count < 1 → q .newest ≡ 0
+
+pub bussing : (b : Bus) → validBus b ≡ true → Bussing (b .pending)
+bussing b e =
+    let two : (leb (b .pending .count) 2 && (eqb (b .pending .older) 0 || eqb (b .pending .count) 2)) ≡ true = both-left _ (eqb (b .pending .newest) 0 || leb 1 (b .pending .count)) e in
+    record {
+      count = leb-true (b .pending .count) 2 (both-left _ (eqb (b .pending .older) 0 || eqb (b .pending .count) 2) two);
+      older = λ l. older-0 l (either (eqb (b .pending .older) 0) (eqb (b .pending .count) 2) (both-right (leb (b .pending .count) 2) _ two));
+      newest = λ l. newest-0 l (either (eqb (b .pending .newest) 0) (leb 1 (b .pending .count)) (both-right (leb (b .pending .count) 2 && (eqb (b .pending .older) 0 || eqb (b .pending .count) 2)) _ e));
+    }
+  where
+    older-0 : b .pending .count < 2 → (eqb (b .pending .older) 0 ≡ true) ⊎ (eqb (b .pending .count) 2 ≡ true) → b .pending .older ≡ 0
+    older-0 l (inl h) = eqb-true (b .pending .older) 0 h
+    older-0 l (inr h) = let f : b .pending .count ≡ 2 = eqb-true (b .pending .count) 2 h in absurd (omega arith)
+
+    newest-0 : b .pending .count < 1 → (eqb (b .pending .newest) 0 ≡ true) ⊎ (leb 1 (b .pending .count) ≡ true) → b .pending .newest ≡ 0
+    newest-0 l (inl h) = eqb-true (b .pending .newest) 0 h
+    newest-0 l (inr h) = let f : 1 ≤ b .pending .count = leb-true 1 (b .pending .count) h in absurd (omega arith)
+
+pub bus-valid : (b : Bus) → Bussing (b .pending) → validBus b ≡ true
+bus-valid b k =
+    both (both (le-leb (b .pending .count) 2 (k .count)) (go (decLt (b .pending .count) 2))) (on (decLt (b .pending .count) 1))
+  where
+    or-true : (a : Bool) → (a || true) ≡ true
+    or-true true = refl
+    or-true false = refl
+
+    go : Dec (b .pending .count < 2) → (eqb (b .pending .older) 0 || eqb (b .pending .count) 2) ≡ true
+    go (yes l) = ap (λ (t : Bool). t || eqb (b .pending .count) 2) (eq-eqb (b .pending .older) 0 (k .older l))
+    go (no l) =
+        let e : b .pending .count ≡ 2 = omega (arith, k .count) in
+        ap (λ (t : Bool). eqb (b .pending .older) 0 || t) (eq-eqb (b .pending .count) 2 e) ∙ or-true (eqb (b .pending .older) 0)
+
+    on : Dec (b .pending .count < 1) → (eqb (b .pending .newest) 0 || leb 1 (b .pending .count)) ≡ true
+    on (yes l) = ap (λ (t : Bool). t || leb 1 (b .pending .count)) (eq-eqb (b .pending .newest) 0 (k .newest l))
+    on (no l) =
+        ap (λ (t : Bool). eqb (b .pending .newest) 0 || t) (le-leb 1 (b .pending .count) (omega arith)) ∙ or-true (eqb (b .pending .newest) 0)
 
 pub drawable : (p : Panel) (d : Display) (mem rom : List ℕ) → validPanel p ≡ true → validDisplay d ≡ true → lentLengths mem rom ≡ true
     → Drawable p d mem rom

@@ -5,4 +5,5 @@ pub mod Packing
 pub mod Rounds
 pub mod Rows
 pub mod Searches
+pub mod Stores
 pub mod Tests
