@@ -1,6 +1,9 @@
 pub mod Acts
+pub mod Goings
 pub mod Laws
 pub mod Lines
 pub mod Positions
 pub mod Pushes
 pub mod Readied
+pub mod Runs
+pub mod Turns

@@ -1,13 +1,16 @@
--- What inner routines rest on, tested once at the door, and a line gathered.
+-- What inner routines rest on, tested once at the door, and what they give.
 use mathlib.Core.Path.{_≡_}
 use mathlib.Core.Bool.{true}
 use mathlib.Core.List.{List}
 use Prim.Native.Nat.{ℕ, _≤_}
 use lib.ListN.{length, take}
-use Rattle.display.specs.State.{validPanel, validDisplay}
+use Rattle.display.specs.State.{validPanel, validDisplay, validRegisters}
 use Rattle.display.specs.Frame.{lentLengths}
-use Rattle.controller.specs.Types.{Panel, Display, Line}
+use Rattle.controller.specs.Types.{Panel, Display, Registers, Line, Turned}
+use Rattle.controller.specs.Access.{Machine, machine}
+use Rattle.controller.specs.Run.{Standing, Turn, went, halted}
 
+-- one access
 pub record Ready (p : Panel) (d : Display) (mem rom : List ℕ) : Type 0 where
   pub panel : validPanel p ≡ true
   pub display : validDisplay d ≡ true
@@ -16,6 +19,32 @@ pub record Ready (p : Panel) (d : Display) (mem rom : List ℕ) : Type 0 where
   pub lines : p .lines ≤ 16
   pub memory : length mem ≡ 65536
 
+-- a line gathered
 pub record Gathered (line : Line) (bytes : List ℕ) : Type 0 where
   pub few : line .count ≤ 80
   pub holds : take (line .count) (line .bytes) ≡ bytes
+
+-- a run under way
+pub record Runs (p : Panel) (r : Registers) (mem rom : List ℕ) : Type 0 where
+  pub panel : validPanel p ≡ true
+  pub state : validRegisters r ≡ true
+  pub lent : lentLengths mem rom ≡ true
+
+abbrev pub standing : Registers → List ℕ → List ℕ → ℕ → Standing Machine
+standing r mem answers given = record { machine = machine r mem; answers = answers; given = given }
+
+-- one pair of a run, the display memory and the answer buffer then
+pub record TurnedAll : Type 0 where
+  pub turned : Turned
+  pub memory : List ℕ
+  pub answers : List ℕ
+
+abbrev pub turnedAll : Turned → List ℕ → List ℕ → TurnedAll
+turnedAll turned memory answers = record { turned = turned; memory = memory; answers = answers }
+
+-- where the pair is refused all is as it was
+abbrev pub turnedOf : Standing Machine → Turn Machine → TurnedAll
+turnedOf s (went t) =
+    turnedAll (record { number = 0; registers = t .machine .registers; given = t .given }) (t .machine .memory) (t .answers)
+turnedOf s (halted n) =
+    turnedAll (record { number = n; registers = s .machine .registers; given = s .given }) (s .machine .memory) (s .answers)

@@ -76,28 +76,25 @@ pub record RanAll : Type 0 where
   pub memory : List ℕ
   pub answers : List ℕ
 
+abbrev pub ranAll : Ran → List ℕ → List ℕ → RanAll
+ranAll ran memory answers = record { ran = ran; memory = memory; answers = answers }
+
 abbrev pub ranOf : Run Machine → RanAll
 ranOf e =
-    record {
-      ran = record {
-        number = endNumber (e .end);
-        place = endPlace (e .end) (e .taken);
-        taken = e .taken;
-        answers = e .standing .given;
-        registers = e .standing .machine .registers;
-      };
-      memory = e .standing .machine .memory;
-      answers = e .standing .answers;
-    }
+    ranAll
+    (record {
+      number = endNumber (e .end);
+      place = endPlace (e .end) (e .taken);
+      taken = e .taken;
+      answers = e .standing .given;
+      registers = e .standing .machine .registers;
+    })
+    (e .standing .machine .memory)
+    (e .standing .answers)
 
 -- on 1, 2 and 8 a run takes no pair
 abbrev pub ranNone : ℕ → ℕ → Registers → List ℕ → List ℕ → RanAll
-ranNone n place r mem answers =
-    record {
-      ran = record { number = n; place = place; taken = 0; answers = 0; registers = r };
-      memory = mem;
-      answers = answers;
-    }
+ranNone n place r mem answers = ranAll (record { number = n; place = place; taken = 0; answers = 0; registers = r }) mem answers
 
 -- 1 panel or state not valid; 2 a lent fixed length wrong; 8 log of odd length, with the whole pairs in it; then at most limit pairs
 unfoldable pub runOf : Panel → Registers → List ℕ → List ℕ → List ℕ → ℕ → List ℕ → RanAll

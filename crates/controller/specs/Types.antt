@@ -23,3 +23,4 @@ pub use Rattle.controller.specs.declared.position.Position.the-variants.
 pub use Rattle.controller.specs.declared.access.Acted.{Acted}
 pub use Rattle.controller.specs.declared.line.Line.{Line}
 pub use Rattle.controller.specs.declared.run.Ran.{Ran}
+pub use Rattle.controller.specs.declared.run.Turned.{Turned}

@@ -1,5 +1,14 @@
 // The run of a log.
+ghost use mathlib.Core.Path.{_≡_};
+ghost use Prim.Native.Nat.{_*_, _≤_};
+ghost use lib.ListN.{length, take};
+ghost use Rattle.controller.specs.Access.{machine, stepOf};
+ghost use Rattle.controller.specs.Run.{turnOf, runFrom, ranOf, ranAll, runOf, pairsOf};
+ghost use Rattle.controller.specs.Ready.{Runs, standing, turnedAll, turnedOf};
+use crate::access::step;
+use display::panel::Panel;
 use display::registers::Registers;
+use ground::bytes::lesser;
 
 // A number and place, the pairs taken, the answers written, the registers after.
 pub struct Ran {
@@ -8,4 +17,145 @@ pub struct Ran {
     pub taken: usize,
     pub answers: usize,
     pub registers: Registers,
+}
+
+// One pair of a run: a number, the registers after, the answers written so far.
+pub(crate) struct Turned {
+    pub number: u8,
+    pub registers: Registers,
+    pub given: usize,
+}
+
+// One pair, and its answer where it is a read. A refused pair changes nothing, nor does a read without room.
+fn turn(
+    panel: Panel,
+    registers: Registers,
+    mem: &mut [u8],
+    rom: &[u8],
+    answers: &mut [u8],
+    given: usize,
+    kind: u8,
+    byte: u8,
+) -> Turned
+    requires { ⌜ Runs panel registers (now mem) (now rom) ⌝ }
+    ensures { λ r. ⌜ turnedAll r (now (mem .exit)) (now (answers .exit)) ≡ turnedOf (standing registers (now (mem .entry)) (now (answers .entry)) given) (turnOf (standing registers (now (mem .entry)) (now (answers .entry)) given) (stepOf panel (now (rom .entry)) (machine registers (now (mem .entry))) (record { kind = kind; byte = byte }))) ⌝ }
+{
+    let acted = step(panel, registers, mem, rom, kind, byte);
+    let number = acted.number;
+    if number != 0 {
+        return Turned {
+            number,
+            registers,
+            given,
+        };
+    }
+    let after = acted.registers;
+    if (kind == 2) | (kind == 3) {
+        if given < answers.len() {
+            answers[given] = acted.answer;
+            return Turned {
+                number: 0,
+                registers: after,
+                given: given + 1,
+            };
+        }
+        return Turned {
+            number: 13,
+            registers,
+            given,
+        };
+    }
+    Turned {
+        number: 0,
+        registers: after,
+        given,
+    }
+}
+
+// The first `total` pairs of a log, on a machine that is known to be valid.
+fn pairs(
+    panel: Panel,
+    registers: Registers,
+    mem: &mut [u8],
+    rom: &[u8],
+    log: &[u8],
+    total: usize,
+    answers: &mut [u8],
+) -> Ran
+    requires { ⌜ Runs panel registers (now mem) (now rom) ⌝ }
+    requires { ⌜ 2 * total ≤ length (now log) ⌝ }
+    ensures { λ r. ⌜ ranAll r (now (mem .exit)) (now (answers .exit)) ≡ ranOf (runFrom (stepOf panel (now (rom .entry))) 0 (take total (pairsOf (now (log .entry)))) (standing registers (now (mem .entry)) (now (answers .entry)) 0)) ⌝ }
+{
+    let mut current = registers;
+    let mut given: usize = 0;
+    let mut i: usize = 0;
+    while i < total {
+        let kind = log[2 * i];
+        let byte = log[2 * i + 1];
+        let turned = turn(panel, current, mem, rom, answers, given, kind, byte);
+        let number = turned.number;
+        current = turned.registers;
+        given = turned.given;
+        if number != 0 {
+            return Ran {
+                number,
+                place: i,
+                taken: i,
+                answers: given,
+                registers: current,
+            };
+        }
+        i += 1;
+    }
+    Ran {
+        number: 0,
+        place: 0,
+        taken: i,
+        answers: given,
+        registers: current,
+    }
+}
+
+// No pair taken.
+fn none_taken(number: u8, place: usize, registers: Registers) -> Ran
+    ensures { λ r. ⌜ r ≡ record { number = number; place = place; taken = 0; answers = 0; registers = registers } ⌝ }
+{
+    Ran {
+        number,
+        place,
+        taken: 0,
+        answers: 0,
+        registers,
+    }
+}
+
+// At most `limit` pairs of a log: the tests at the door, then pair after pair.
+pub fn run(
+    panel: Panel,
+    registers: Registers,
+    mem: &mut [u8],
+    rom: &[u8],
+    log: &[u8],
+    limit: usize,
+    answers: &mut [u8],
+) -> Ran
+    ensures { λ r. ⌜ ranAll r (now (mem .exit)) (now (answers .exit)) ≡ runOf panel registers (now (mem .entry)) (now (rom .entry)) (now (log .entry)) limit (now (answers .entry)) ⌝ }
+{
+    let valid = panel.valid() & registers.valid();
+    if valid {
+        let fits = (mem.len() == 65536) & (rom.len() == 1024);
+        if fits {
+            let whole = log.len() / 2;
+            if log.len() % 2 == 0 {
+                let total = lesser(limit, whole);
+                pairs(panel, registers, mem, rom, log, total, answers)
+            } else {
+                none_taken(8, whole, registers)
+            }
+        } else {
+            none_taken(2, 0, registers)
+        }
+    } else {
+        none_taken(1, 0, registers)
+    }
 }

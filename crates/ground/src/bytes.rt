@@ -1,7 +1,7 @@
-// Bits of a byte, and two bytes as a word.
+// Bits of a byte, two bytes as a word, the lesser of two numbers.
 ghost use mathlib.Core.Path.{_≡_};
 ghost use Rattle.ground.specs.Bytes.{bitOf, withBit, wordOf};
-ghost use Prim.Native.Nat.{_%_};
+ghost use Prim.Native.Nat.{_%_, min};
 
 // Bit `at` of a byte, 0 above its eight.
 pub fn bit(byte: u8, at: usize) -> u8
@@ -26,4 +26,10 @@ pub fn with_bit(byte: u8, at: u8, on: bool) -> u8
 {
     let mask: u8 = 1 << (at % 8);
     if on { byte | mask } else { byte & (255 - mask) }
+}
+
+pub fn lesser(a: usize, b: usize) -> usize
+    ensures { λ r. ⌜ r ≡ min a b ⌝ }
+{
+    if a < b { a } else { b }
 }
