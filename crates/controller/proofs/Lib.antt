@@ -6,4 +6,6 @@ pub mod Positions
 pub mod Pushes
 pub mod Readied
 pub mod Runs
+pub mod Splits
+pub mod Splitting
 pub mod Turns

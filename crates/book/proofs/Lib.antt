@@ -1,0 +1,9 @@
+pub mod Asking
+pub mod Conjuncts
+pub mod Counting
+pub mod Finding
+pub mod Judging
+pub mod Products
+pub mod Readings
+pub mod Verdicts
+pub mod Walking
