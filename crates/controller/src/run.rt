@@ -26,6 +26,17 @@ pub(crate) struct Turned {
     pub given: usize,
 }
 
+// A pair that is not taken.
+fn halted(number: u8, registers: Registers, given: usize) -> Turned
+    ensures { λ r. ⌜ r ≡ record { number = number; registers = registers; given = given } ⌝ }
+{
+    Turned {
+        number,
+        registers,
+        given,
+    }
+}
+
 // One pair, and its answer where it is a read. A refused pair changes nothing, nor does a read without room.
 fn turn(
     panel: Panel,
@@ -43,11 +54,7 @@ fn turn(
     let acted = step(panel, registers, mem, rom, kind, byte);
     let number = acted.number;
     if number != 0 {
-        return Turned {
-            number,
-            registers,
-            given,
-        };
+        return halted(number, registers, given);
     }
     let after = acted.registers;
     if (kind == 2) | (kind == 3) {
@@ -59,11 +66,7 @@ fn turn(
                 given: given + 1,
             };
         }
-        return Turned {
-            number: 13,
-            registers,
-            given,
-        };
+        return halted(13, registers, given);
     }
     Turned {
         number: 0,

@@ -1,5 +1,8 @@
 -- `turn` meets its contract: refused, answered, without room for the answer, or acted.
+use mathlib.Core.Path.{ap, _∙_}
+use Rattle.controller.specs.Types.{Turned}
 use Rattle.controller.specs.Access.{machine, stepOf}
+use Rattle.controller.specs.Ready.{turnedAll}
 use Rattle.controller.proofs.Readied.{ready-runs}
 use Rattle.controller.proofs.Turns.{step-answering, step-acting, turn-refused, turn-acted, turn-answered, turn-full}
 use borrow.Author.Needs.{needs}
@@ -9,14 +12,17 @@ use Rattle.controller.proofs.run.turn.Tie as tie
 step-requires : tie.Need-step-requires
 step-requires c κs = ready-runs (c .before .before .before .before .pre)
 
+halted-requires : tie.Need-halted-requires
+halted-requires c κs = search needs
+
 same-length : tie.Need-same-length
 same-length c = search needs
 
 returns : tie.Need-returns
 returns c =
-    let s = c .before .before .before .before .before .before .before .before .args in
+    let s = c .before .before .before .before .before .before .before .before .before .args in
     let o = stepOf (s .panel) (s .rom .now) (machine (s .registers) (s .mem .now)) (record { kind = s .kind; byte = s .byte }) in
-    turn-refused (s .registers) (s .mem .now) (s .answers .now) (s .given) o (c .before .before .before .step .ensures) (c .if1 .taken)
+    ap (λ (t : Turned). turnedAll t _ _) (c .halted .ensures) ∙ turn-refused (s .registers) (s .mem .now) (s .answers .now) (s .given) o (c .before .before .before .before .step .ensures) (c .before .if1 .taken)
 
 slice-write-answers : tie.Need-slice-write-answers
 slice-write-answers c = search needs
@@ -36,14 +42,18 @@ returns-2 c =
     let o = stepOf (s .panel) (s .rom .now) (machine (s .registers) (s .mem .now)) (record { kind = s .kind; byte = s .byte }) in
     turn-answered (s .registers) (s .mem .now) (s .answers .now) (s .given) o (step-answering (s .panel) (s .rom .now) (machine (s .registers) (s .mem .now)) (s .kind) (s .byte) (c .before .if2 .taken)) (c .before .before .before .before .before .before .step .ensures) (c .before .before .before .if1 .left) (c .if3 .taken)
 
+halted-requires-2 : tie.Need-halted-requires-2
+halted-requires-2 c κs = search needs
+
 same-length-4 : tie.Need-same-length-4
 same-length-4 c = search needs
 
 returns-3 : tie.Need-returns-3
 returns-3 c =
-    let s = c .before .before .before .before .before .before .before .before .before .before .before .args in
+    let s = c .before .before .before .before .before .before .before .before .before .before .before .before .args in
     let o = stepOf (s .panel) (s .rom .now) (machine (s .registers) (s .mem .now)) (record { kind = s .kind; byte = s .byte }) in
-    turn-full (s .registers) (s .mem .now) (s .answers .now) (s .given) o (step-answering (s .panel) (s .rom .now) (machine (s .registers) (s .mem .now)) (s .kind) (s .byte) (c .before .if2 .taken)) (c .before .before .before .before .before .before .step .ensures) (c .before .before .before .if1 .left) (c .if3 .left)
+    ap (λ (t : Turned). turnedAll t _ _) (c .halted2 .ensures)
+    ∙ turn-full (s .registers) (s .mem .now) (s .answers .now) (s .given) o (step-answering (s .panel) (s .rom .now) (machine (s .registers) (s .mem .now)) (s .kind) (s .byte) (c .before .before .if2 .taken)) (c .before .before .before .before .before .before .before .step .ensures) (c .before .before .before .before .if1 .left) (c .before .if3 .left)
 
 same-length-5 : tie.Need-same-length-5
 same-length-5 c = search needs
@@ -59,6 +69,7 @@ turn-spec =
     tie.close
     (tie.spec
     step-requires
+    halted-requires
     same-length
     returns
     slice-write-answers
@@ -66,6 +77,7 @@ turn-spec =
     same-length-2
     same-length-3
     returns-2
+    halted-requires-2
     same-length-4
     returns-3
     same-length-5
