@@ -72,10 +72,12 @@ module _ (r : Registers) (m answers₀ : List ℕ) (given : ℕ) {a : Acted} {m�
   number-of o e = ap (λ (x : Accessed). x .acted .number) e
 
   pub turn-refused : (o : Step Machine) → replied a m′ ≡ actedOf r m o → (a .number ≡ 0 → ⊥)
-      → turnedAll (record { number = a .number; registers = r; given = given }) m′ answers₀ ≡ turnedOf (standing r m answers₀ given) (turnOf (standing r m answers₀ given) o)
-  turn-refused (done s) e h = absurd (h (number-of (done s) e))
-  turn-refused (answered s b) e h = absurd (h (number-of (answered s b) e))
-  turn-refused (refused n) e h = λ i. turnedAll (record { number = e i .acted .number; registers = r; given = given }) (e i .memory) answers₀
+      → {x : Turned} → x ≡ record { number = a .number; registers = r; given = given } → turnedAll x m′ answers₀ ≡ turnedOf (standing r m answers₀ given) (turnOf (standing r m answers₀ given) o)
+  turn-refused (done s) e h k = absurd (h (number-of (done s) e))
+  turn-refused (answered s b) e h k = absurd (h (number-of (answered s b) e))
+  turn-refused (refused n) e h k =
+      ap (λ (x : Turned). turnedAll x m′ answers₀) k
+      ∙ (λ i. turnedAll (record { number = e i .acted .number; registers = r; given = given }) (e i .memory) answers₀)
 
   pub turn-acted : (o : Step Machine) → Acting o → replied a m′ ≡ actedOf r m o → a .number ≡ 0
       → turnedAll (record { number = 0; registers = a .registers; given = given }) m′ answers₀ ≡ turnedOf (standing r m answers₀ given) (turnOf (standing r m answers₀ given) o)
@@ -93,10 +95,11 @@ module _ (r : Registers) (m answers₀ : List ℕ) (given : ℕ) {a : Acted} {m�
   turn-answered (refused (suc n)) declines e h l = let z : 0 ≡ suc n = sym h ∙ number-of (refused (suc n)) e in absurd (let y : ⊥ = omega arith in y)
 
   pub turn-full : (o : Step Machine) → Answering (machine r m) o → replied a m′ ≡ actedOf r m o → a .number ≡ 0 → length answers₀ ≤ given
-      → turnedAll (record { number = 13; registers = r; given = given }) m′ answers₀ ≡ turnedOf (standing r m answers₀ given) (turnOf (standing r m answers₀ given) o)
-  turn-full (answered s b) answers e h l =
-      (λ i. turnedAll (record { number = 13; registers = r; given = given }) (e i .memory) answers₀)
+      → {x : Turned} → x ≡ record { number = 13; registers = r; given = given } → turnedAll x m′ answers₀ ≡ turnedOf (standing r m answers₀ given) (turnOf (standing r m answers₀ given) o)
+  turn-full (answered s b) answers e h l k =
+      ap (λ (x : Turned). turnedAll x m′ answers₀) k
+      ∙ (λ i. turnedAll (record { number = 13; registers = r; given = given }) (e i .memory) answers₀)
       ∙ sym
       (ap (λ (t : Bool). turnedOf (standing r m answers₀ given) (cond t (went (record { machine = s; answers = set answers₀ given b; given = given + 1 })) (halted 13)))
       (le-ltb given (length answers₀) l))
-  turn-full (refused (suc n)) declines e h l = let z : 0 ≡ suc n = sym h ∙ number-of (refused (suc n)) e in absurd (let y : ⊥ = omega arith in y)
+  turn-full (refused (suc n)) declines e h l k = let z : 0 ≡ suc n = sym h ∙ number-of (refused (suc n)) e in absurd (let y : ⊥ = omega arith in y)

@@ -1,8 +1,5 @@
 -- `turn` meets its contract: refused, answered, without room for the answer, or acted.
-use mathlib.Core.Path.{ap, _∙_}
-use Rattle.controller.specs.Types.{Turned}
 use Rattle.controller.specs.Access.{machine, stepOf}
-use Rattle.controller.specs.Ready.{turnedAll}
 use Rattle.controller.proofs.Readied.{ready-runs}
 use Rattle.controller.proofs.Turns.{step-answering, step-acting, turn-refused, turn-acted, turn-answered, turn-full}
 use borrow.Author.Needs.{needs}
@@ -22,7 +19,7 @@ returns : tie.Need-returns
 returns c =
     let s = c .before .before .before .before .before .before .before .before .before .args in
     let o = stepOf (s .panel) (s .rom .now) (machine (s .registers) (s .mem .now)) (record { kind = s .kind; byte = s .byte }) in
-    ap (λ (t : Turned). turnedAll t _ _) (c .halted .ensures) ∙ turn-refused (s .registers) (s .mem .now) (s .answers .now) (s .given) o (c .before .before .before .before .step .ensures) (c .before .if1 .taken)
+    turn-refused (s .registers) (s .mem .now) (s .answers .now) (s .given) o (c .before .before .before .before .step .ensures) (c .before .if1 .taken) (c .halted .ensures)
 
 slice-write-answers : tie.Need-slice-write-answers
 slice-write-answers c = search needs
@@ -52,8 +49,7 @@ returns-3 : tie.Need-returns-3
 returns-3 c =
     let s = c .before .before .before .before .before .before .before .before .before .before .before .before .args in
     let o = stepOf (s .panel) (s .rom .now) (machine (s .registers) (s .mem .now)) (record { kind = s .kind; byte = s .byte }) in
-    ap (λ (t : Turned). turnedAll t _ _) (c .halted2 .ensures)
-    ∙ turn-full (s .registers) (s .mem .now) (s .answers .now) (s .given) o (step-answering (s .panel) (s .rom .now) (machine (s .registers) (s .mem .now)) (s .kind) (s .byte) (c .before .before .if2 .taken)) (c .before .before .before .before .before .before .before .step .ensures) (c .before .before .before .before .if1 .left) (c .before .if3 .left)
+    turn-full (s .registers) (s .mem .now) (s .answers .now) (s .given) o (step-answering (s .panel) (s .rom .now) (machine (s .registers) (s .mem .now)) (s .kind) (s .byte) (c .before .before .if2 .taken)) (c .before .before .before .before .before .before .before .step .ensures) (c .before .before .before .before .if1 .left) (c .before .if3 .left) (c .halted2 .ensures)
 
 same-length-5 : tie.Need-same-length-5
 same-length-5 c = search needs
