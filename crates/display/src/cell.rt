@@ -32,7 +32,7 @@ fn low(width: usize, n: u8) -> u8
 }
 
 // Where text or graphic has the byte of a row in a column.
-pub fn address(plane: Plane, row: usize, column: usize) -> u16
+pub(crate) fn address(plane: Plane, row: usize, column: usize) -> u16
     ensures { λ r. ⌜ r ≡ addressOf plane row column ⌝ }
 {
     let down = ((row % 65536) * (plane.area as usize) % 65536) as u16;
@@ -161,7 +161,7 @@ fn mix(text_on: bool, graphic_on: bool, combination: Combination, text: u8, grap
 }
 
 // The displayed byte.
-pub fn shown_byte(
+pub(crate) fn shown_byte(
     panel: Panel,
     display: Display,
     mem: &[u8],
@@ -205,7 +205,7 @@ fn cursor_covers(panel: Panel, cursor: Cursor, line: usize, v: usize, column: us
 }
 
 // The byte of a cell as the frame has it, the cursor laid over.
-pub fn cell_byte(
+pub(crate) fn cell_byte(
     panel: Panel,
     display: Display,
     mem: &[u8],

@@ -35,7 +35,14 @@ fn row_byte(panel: Panel, display: Display, mem: &[u8], rom: &[u8], row: usize, 
     byte
 }
 
-pub fn paint_row(panel: Panel, display: Display, mem: &[u8], rom: &[u8], row: usize, out: &mut [u8])
+pub(crate) fn paint_row(
+    panel: Panel,
+    display: Display,
+    mem: &[u8],
+    rom: &[u8],
+    row: usize,
+    out: &mut [u8],
+)
     requires { ⌜ Drawable panel display (now mem) (now rom) ⌝ }
     requires { ⌜ length (now out) ≡ rowBytes (panel .columns) (panel .width) ⌝ }
     ensures { λ _. ⌜ now (out .exit) ≡ rowOf panel display (now (mem .entry)) (now (rom .entry)) row ⌝ }
