@@ -1,27 +1,50 @@
-/* generate SEED: the log program's input of that seed, on standard output. */
+/* generate [log|write|normal|off] SEED: the input of that seed for a program, on standard output. */
 #include <errno.h>
 #include <stdio.h>
 #include <stdlib.h>
+#include <string.h>
 
 #include "generate.h"
+#include "generate_book.h"
+
+static int usage(void)
+{
+    fputs("usage: generate [log|write|normal|off] SEED (a number from 0 to 18446744073709551615)\n"
+          "  an input for log, for write, or for picture in phase normal or off; for log if none is named\n", stderr);
+    return 2;
+}
+
+/* The input for write becomes that for picture: the phase stands after a screen's number. */
+static unsigned long insert_phase(unsigned char *buffer, unsigned long length, unsigned char phase)
+{
+    if (length < GENERATE_BOOK_HEAD) return length;
+    memmove(buffer + GENERATE_BOOK_HEAD + 1, buffer + GENERATE_BOOK_HEAD, length - GENERATE_BOOK_HEAD);
+    buffer[GENERATE_BOOK_HEAD] = phase;
+    return length + 1;
+}
 
 int main(int argc, char **argv)
 {
-    static unsigned char buffer[GENERATE_ROOM];
+    static unsigned char buffer[GENERATE_BOOK_ROOM + 1]; /* the phase too; a log needs less */
+    const char *kind = "log", *number;
     unsigned long long seed;
     unsigned long length;
     char *end;
-    if (argc != 2 || argv[1][0] < '0' || argv[1][0] > '9') {
-        fputs("usage: generate SEED (a number from 0 to 18446744073709551615)\n", stderr);
-        return 2;
-    }
+    if (argc != 2 && argc != 3) return usage();
+    if (argc == 3) kind = argv[1];
+    number = argv[argc - 1];
+    if (number[0] < '0' || number[0] > '9') return usage();
     errno = 0;
-    seed = strtoull(argv[1], &end, 10);
+    seed = strtoull(number, &end, 10);
     if (errno != 0 || *end != '\0') {
-        fprintf(stderr, "generate: %s is no seed from 0 to 18446744073709551615\n", argv[1]);
+        fprintf(stderr, "generate: %s is no seed from 0 to 18446744073709551615\n", number);
         return 2;
     }
-    length = generate_input(seed, buffer);
+    if (strcmp(kind, "log") == 0) length = generate_input(seed, buffer);
+    else if (strcmp(kind, "write") == 0) length = generate_book(seed, buffer).length;
+    else if (strcmp(kind, "normal") == 0) length = insert_phase(buffer, generate_book(seed, buffer).length, 1);
+    else if (strcmp(kind, "off") == 0) length = insert_phase(buffer, generate_book(seed, buffer).length, 0);
+    else return usage();
     if (fwrite(buffer, 1, length, stdout) != length || fflush(stdout) != 0) {
         fputs("generate: standard output cannot be written\n", stderr);
         return 1;

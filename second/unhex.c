@@ -17,6 +17,7 @@ int main(void)
     while (fgets(line, sizeof line, stdin) != NULL) {
         char *at = line;
         if (line[0] == '#') continue;
+        if (!inside && strncmp(line, "program:", 8) == 0) continue;
         if (strncmp(line, "out:", 4) == 0) return inside ? 0 : 1;
         if (strncmp(line, "in:", 3) == 0) {
             inside = 1;

@@ -1,0 +1,460 @@
+#include "screens.h"
+
+#define TEXT_HOME 0x4000UL
+#define GRAPHIC_HOME 0x0000UL
+#define GLYPHS_START 0xFC00UL
+#define GLYPHS_OFFSET 0x1F
+
+enum { TEXT = 1, RECTANGLE, DOT, GLYPH, CURSOR, COMBINATION };
+
+unsigned long second_graphic_length(const struct second_panel *panel)
+{
+    return 8UL * panel->columns * panel->lines;
+}
+
+unsigned long second_text_length(const struct second_panel *panel)
+{
+    return (unsigned long)panel->columns * panel->lines;
+}
+
+/* The book and its contents. */
+
+static unsigned long word_at(const unsigned char *book, unsigned long place)
+{
+    return book[place] + 256UL * book[place + 1];
+}
+
+static unsigned long entry_place(unsigned long screen)
+{
+    return 1 + 4 * screen;
+}
+
+/* 0 or 9, and its place. */
+static unsigned contents_number(const unsigned char *book, unsigned long book_length, unsigned long *place)
+{
+    unsigned long n, screen, begin;
+    *place = 0;
+    if (book_length < 1 || book_length > SECOND_BOOK_LIMIT) return 9;
+    n = book[0];
+    if (n < 1 || n > 64) return 9;
+    if (book_length < 1 + 4 * n) return 9;
+
+    begin = 1 + 4 * n;
+    for (screen = 0; screen < n; screen++) {
+        unsigned long offset = word_at(book, entry_place(screen));
+        unsigned long length = word_at(book, entry_place(screen) + 2);
+        unsigned long end = offset + length;
+        *place = entry_place(screen);
+        if (offset != begin) return 9;
+        if (end > book_length) return 9;
+        if (screen == n - 1 && end < book_length) return 9;
+        begin = end;
+    }
+    *place = 0;
+    return 0;
+}
+
+/* Operations. */
+
+/* The bytes of an operation, without a text's codes; 0 if it is unknown. */
+static unsigned long fixed_length(unsigned code)
+{
+    switch (code) {
+    case TEXT: return 4;
+    case RECTANGLE: return 6;
+    case DOT: return 5;
+    case GLYPH: return 10;
+    case CURSOR: return 5;
+    case COMBINATION: return 2;
+    default: return 0;
+    }
+}
+
+static unsigned long whole_length(const unsigned char *operation)
+{
+    return fixed_length(operation[0]) + (operation[0] == TEXT ? operation[3] : 0U);
+}
+
+static int text_in_range(const struct second_panel *panel, unsigned line, unsigned column, unsigned n)
+{
+    return line < panel->lines && n >= 1 && n <= 80 && column + n <= panel->columns;
+}
+
+static int rectangle_in_range(const struct second_panel *panel, unsigned top, unsigned column,
+                              unsigned height, unsigned width)
+{
+    return height >= 1 && width >= 1 && top + height <= 8 * panel->lines && column + width <= panel->columns;
+}
+
+static int dot_in_range(const struct second_panel *panel, unsigned x, unsigned y, unsigned v)
+{
+    return x < panel->columns * panel->width && y < 8 * panel->lines && v <= 1;
+}
+
+static int cursor_in_range(const struct second_panel *panel, unsigned line, unsigned column,
+                           unsigned height, unsigned blink)
+{
+    return line < panel->lines && column < panel->columns && height >= 1 && height <= 8 && blink <= 1;
+}
+
+static unsigned dot_x(const unsigned char *operation)
+{
+    return operation[1] + 256U * operation[2];
+}
+
+/* The operation is a known one, and its bytes, a text's codes apart, are there. */
+static int in_range(const struct second_panel *panel, const unsigned char *operation)
+{
+    switch (operation[0]) {
+    case TEXT: return text_in_range(panel, operation[1], operation[2], operation[3]);
+    case RECTANGLE: return rectangle_in_range(panel, operation[1], operation[2], operation[3], operation[4]);
+    case DOT: return dot_in_range(panel, dot_x(operation), operation[3], operation[4]);
+    case GLYPH: return operation[1] >= 0x80;
+    case CURSOR: return cursor_in_range(panel, operation[1], operation[2], operation[3], operation[4]);
+    default: return operation[1] <= 2;
+    }
+}
+
+/* Neither unknown nor cut nor out of range; left is at least 1, the bytes up to the body's end. */
+static int operation_right(const struct second_panel *panel, const unsigned char *operation, unsigned long left)
+{
+    unsigned long fixed = fixed_length(operation[0]);
+    if (fixed == 0 || fixed > left) return 0;
+    if (whole_length(operation) > left) return 0;
+    return in_range(panel, operation);
+}
+
+static unsigned long operation_pairs(const unsigned char *operation)
+{
+    switch (operation[0]) {
+    case TEXT: return operation[3] + 5UL;
+    case RECTANGLE: return operation[3] * (operation[4] + 5UL);
+    case DOT: return 4;
+    case GLYPH: return 13;
+    case CURSOR: return 5;
+    default: return 1;
+    }
+}
+
+/* A screen's body, from begin up to but without end, and the pairs of its operations. */
+struct body {
+    unsigned long begin, end, pairs;
+};
+
+/* 0, 9, 10 or 11, and its place; the body only with 0. */
+static unsigned screen_number(const struct second_panel *panel, const unsigned char *book, unsigned long book_length,
+                              unsigned long screen, struct body *body, unsigned long *place)
+{
+    unsigned long at;
+    if (contents_number(book, book_length, place) != 0) return 9;
+    if (screen >= book[0]) return 10;
+    body->begin = word_at(book, entry_place(screen));
+    body->end = body->begin + word_at(book, entry_place(screen) + 2);
+    body->pairs = 0;
+    for (at = body->begin; at < body->end; at += whole_length(book + at)) {
+        if (!operation_right(panel, book + at, body->end - at)) {
+            *place = at;
+            return 11;
+        }
+        body->pairs += operation_pairs(book + at);
+    }
+    return 0;
+}
+
+/* The stream. */
+
+struct stream {
+    unsigned char *room;
+    unsigned long pairs; /* written so far */
+};
+
+static void pair(struct stream *stream, unsigned kind, unsigned long byte)
+{
+    stream->room[2 * stream->pairs] = (unsigned char)kind;
+    stream->room[2 * stream->pairs + 1] = (unsigned char)byte;
+    stream->pairs++;
+}
+
+static void command(struct stream *stream, unsigned code)
+{
+    pair(stream, SECOND_COMMAND, code);
+}
+
+static void command_with(struct stream *stream, unsigned long d1, unsigned long d2, unsigned code)
+{
+    pair(stream, SECOND_DATA_WRITE, d1);
+    pair(stream, SECOND_DATA_WRITE, d2);
+    command(stream, code);
+}
+
+static void command_with_address(struct stream *stream, unsigned long address, unsigned code)
+{
+    command_with(stream, address % 256, address / 256, code);
+}
+
+static void store_bytes(struct stream *stream, unsigned long address, const unsigned char *bytes, unsigned long count)
+{
+    unsigned long i;
+    command_with_address(stream, address, 0x24);
+    command(stream, 0xB0);
+    for (i = 0; i < count; i++) pair(stream, SECOND_DATA_WRITE, bytes[i]);
+    command(stream, 0xB2);
+}
+
+static void store_value(struct stream *stream, unsigned long address, unsigned value, unsigned long count)
+{
+    unsigned long i;
+    command_with_address(stream, address, 0x24);
+    command(stream, 0xB0);
+    for (i = 0; i < count; i++) pair(stream, SECOND_DATA_WRITE, value);
+    command(stream, 0xB2);
+}
+
+static unsigned long opening_pairs(const struct second_panel *panel)
+{
+    return 1057 + 9UL * panel->columns * panel->lines;
+}
+
+static void write_opening(struct stream *stream, const struct second_panel *panel)
+{
+    command(stream, 0xB2);
+    command_with_address(stream, TEXT_HOME, 0x40);
+    command_with(stream, panel->columns, 0, 0x41);
+    command_with_address(stream, GRAPHIC_HOME, 0x42);
+    command_with(stream, panel->columns, 0, 0x43);
+    command_with(stream, GLYPHS_OFFSET, 0, 0x22);
+    command(stream, 0x80);
+    command(stream, 0x9C);
+    store_value(stream, GRAPHIC_HOME, 0, second_graphic_length(panel));
+    store_value(stream, TEXT_HOME, 0, second_text_length(panel));
+    store_value(stream, GLYPHS_START, 0, SECOND_GLYPHS_LENGTH);
+}
+
+static unsigned long graphic_address(const struct second_panel *panel, unsigned row, unsigned column)
+{
+    return GRAPHIC_HOME + (unsigned long)row * panel->columns + column;
+}
+
+static void write_rectangle(struct stream *stream, const struct second_panel *panel, unsigned top, unsigned column,
+                            unsigned height, unsigned width, unsigned value)
+{
+    unsigned row;
+    for (row = top; row < top + height; row++) store_value(stream, graphic_address(panel, row, column), value, width);
+}
+
+static void write_dot(struct stream *stream, const struct second_panel *panel, unsigned x, unsigned y, unsigned v)
+{
+    unsigned bit = panel->width - 1 - x % panel->width;
+    command_with_address(stream, graphic_address(panel, y, x / panel->width), 0x24);
+    command(stream, (v == 0 ? 0xF0 : 0xF8) + bit);
+}
+
+static void write_cursor(struct stream *stream, unsigned line, unsigned column, unsigned height, unsigned blink)
+{
+    command_with(stream, column, line, 0x21);
+    command(stream, 0xA0 + height - 1);
+    command(stream, blink == 0 ? 0x9E : 0x9F);
+}
+
+static void write_combination(struct stream *stream, unsigned k)
+{
+    static const unsigned char code[3] = {0x80, 0x81, 0x83};
+    command(stream, code[k]);
+}
+
+static void write_operation(struct stream *stream, const struct second_panel *panel, const unsigned char *operation)
+{
+    const unsigned char *field = operation + 1;
+    switch (operation[0]) {
+    case TEXT:
+        store_bytes(stream, TEXT_HOME + (unsigned long)field[0] * panel->columns + field[1], field + 3, field[2]);
+        break;
+    case RECTANGLE:
+        write_rectangle(stream, panel, field[0], field[1], field[2], field[3], field[4]);
+        break;
+    case DOT:
+        write_dot(stream, panel, dot_x(operation), field[2], field[3]);
+        break;
+    case GLYPH:
+        store_bytes(stream, GLYPHS_START + 8UL * (field[0] - 0x80U), field + 1, 8);
+        break;
+    case CURSOR:
+        write_cursor(stream, field[0], field[1], field[2], field[3]);
+        break;
+    default:
+        write_combination(stream, field[0]);
+        break;
+    }
+}
+
+struct second_write_reply second_write(const struct second_panel *panel,
+                                       const unsigned char *book, unsigned long book_length, unsigned long screen,
+                                       unsigned char *room, unsigned long room_length)
+{
+    struct second_write_reply reply;
+    struct stream stream;
+    struct body body;
+    unsigned long at, needed;
+    reply.number = 1;
+    reply.place = 0;
+    reply.pairs = 0;
+    if (!second_panel_valid(panel)) return reply;
+    reply.number = screen_number(panel, book, book_length, screen, &body, &reply.place);
+    if (reply.number != 0) return reply;
+    needed = opening_pairs(panel) + body.pairs;
+    if (2 * needed > room_length) {
+        reply.number = 12;
+        reply.place = needed;
+        return reply;
+    }
+
+    stream.room = room;
+    stream.pairs = 0;
+    write_opening(&stream, panel);
+    for (at = body.begin; at < body.end; at += whole_length(book + at)) write_operation(&stream, panel, book + at);
+    reply.pairs = stream.pairs;
+    return reply;
+}
+
+/* The picture, dot by dot; nothing below knows a register or an address. */
+
+struct picture {
+    unsigned char *graphic; /* row by row, C bytes each */
+    unsigned char *text;    /* line by line, C codes each */
+    unsigned char *glyphs;  /* eight rows for each code 80H to FFH */
+    unsigned k;             /* 0 OR, 1 EXOR, 2 AND */
+    int cursor;
+    unsigned cursor_line, cursor_column, cursor_height, cursor_blink;
+};
+
+static void clear(unsigned char *bytes, unsigned long length)
+{
+    unsigned long i;
+    for (i = 0; i < length; i++) bytes[i] = 0;
+}
+
+static void draw_text(const struct second_panel *panel, struct picture *picture, unsigned line, unsigned column,
+                      const unsigned char *codes, unsigned n)
+{
+    unsigned i;
+    for (i = 0; i < n; i++) picture->text[line * panel->columns + column + i] = codes[i];
+}
+
+static void draw_rectangle(const struct second_panel *panel, struct picture *picture, unsigned top, unsigned left,
+                           unsigned height, unsigned width, unsigned char value)
+{
+    unsigned row, column;
+    for (row = top; row < top + height; row++) {
+        for (column = left; column < left + width; column++) picture->graphic[row * panel->columns + column] = value;
+    }
+}
+
+static void draw_dot(const struct second_panel *panel, struct picture *picture, unsigned x, unsigned y, unsigned v)
+{
+    unsigned char *byte = &picture->graphic[y * panel->columns + x / panel->width];
+    unsigned bit = 1U << (panel->width - 1 - x % panel->width);
+    *byte = (unsigned char)(v == 0 ? *byte & ~bit : *byte | bit);
+}
+
+static void draw_glyph(struct picture *picture, unsigned code, const unsigned char *rows)
+{
+    unsigned v;
+    for (v = 0; v < 8; v++) picture->glyphs[8 * (code - 0x80) + v] = rows[v];
+}
+
+static void draw_operation(const struct second_panel *panel, struct picture *picture, const unsigned char *operation)
+{
+    const unsigned char *field = operation + 1;
+    switch (operation[0]) {
+    case TEXT:
+        draw_text(panel, picture, field[0], field[1], field + 3, field[2]);
+        break;
+    case RECTANGLE:
+        draw_rectangle(panel, picture, field[0], field[1], field[2], field[3], field[4]);
+        break;
+    case DOT:
+        draw_dot(panel, picture, dot_x(operation), field[2], field[3]);
+        break;
+    case GLYPH:
+        draw_glyph(picture, field[0], field + 1);
+        break;
+    case CURSOR:
+        picture->cursor = 1;
+        picture->cursor_line = field[0];
+        picture->cursor_column = field[1];
+        picture->cursor_height = field[2];
+        picture->cursor_blink = field[3];
+        break;
+    default:
+        picture->k = field[0];
+        break;
+    }
+}
+
+static int under_cursor(const struct picture *picture, unsigned normal, unsigned column, unsigned y)
+{
+    if (!picture->cursor) return 0;
+    if (picture->cursor_blink && !normal) return 0;
+    if (column != picture->cursor_column || y / 8 != picture->cursor_line) return 0;
+    return 8 - y % 8 <= picture->cursor_height;
+}
+
+static unsigned picture_dot(const struct second_panel *panel, const struct picture *picture, const unsigned char *rom,
+                            unsigned normal, unsigned x, unsigned y)
+{
+    unsigned column = x / panel->width;
+    unsigned bit = panel->width - 1 - x % panel->width;
+    unsigned code = picture->text[y / 8 * panel->columns + column];
+    unsigned row = code < 0x80 ? rom[8 * code + y % 8] : picture->glyphs[8 * (code - 0x80) + y % 8];
+    unsigned text = (row >> bit) & 1;
+    unsigned graphic = ((unsigned)picture->graphic[y * panel->columns + column] >> bit) & 1;
+    if (under_cursor(picture, normal, column, y)) return 1;
+    if (picture->k == 0) return text | graphic;
+    if (picture->k == 1) return text ^ graphic;
+    return text & graphic;
+}
+
+struct second_picture_reply second_picture(const struct second_panel *panel,
+                                           const unsigned char *book, unsigned long book_length, unsigned long screen,
+                                           const unsigned char *rom, unsigned long rom_length, unsigned normal,
+                                           unsigned char *graphic, unsigned long graphic_length,
+                                           unsigned char *text, unsigned long text_length,
+                                           unsigned char *glyphs, unsigned long glyphs_length,
+                                           unsigned char *frame, unsigned long frame_length)
+{
+    struct second_picture_reply reply;
+    struct picture picture;
+    struct body body;
+    unsigned long at;
+    unsigned x, y;
+    reply.number = 1;
+    reply.place = 0;
+    if (!second_panel_valid(panel)) return reply;
+    reply.number = 2;
+    if (rom_length != SECOND_ROM_LENGTH) return reply;
+    if (graphic_length != second_graphic_length(panel)) return reply;
+    if (text_length != second_text_length(panel)) return reply;
+    if (glyphs_length != SECOND_GLYPHS_LENGTH) return reply;
+    if (frame_length != second_frame_length(panel)) return reply;
+    reply.number = screen_number(panel, book, book_length, screen, &body, &reply.place);
+    if (reply.number != 0) return reply;
+
+    picture.graphic = graphic;
+    picture.text = text;
+    picture.glyphs = glyphs;
+    picture.k = 0;
+    picture.cursor = 0;
+    clear(graphic, graphic_length);
+    clear(text, text_length);
+    clear(glyphs, glyphs_length);
+    for (at = body.begin; at < body.end; at += whole_length(book + at)) draw_operation(panel, &picture, book + at);
+
+    clear(frame, frame_length);
+    for (y = 0; y < 8 * panel->lines; y++) {
+        for (x = 0; x < panel->columns * panel->width; x++) {
+            unsigned char *packed = &frame[y * second_row_length(panel) + x / 8];
+            if (picture_dot(panel, &picture, rom, normal, x, y)) *packed = (unsigned char)(*packed | 0x80U >> x % 8);
+        }
+    }
+    return reply;
+}
