@@ -42,7 +42,7 @@ module _ (p : Panel) (rom : List ℕ) (s : Machine) where
       cond-has Acting (endsAuto k || isOff (s .registers .bus .auto))
       (cond-has Acting (leb (neededOf k) (s .registers .bus .pending .count)) acts refuses) refuses
 
-  command-acting : (d : Decoded) → Acting (commandOf p rom s d)
+  pub command-acting : (d : Decoded) → Acting (commandOf p rom s d)
   command-acting (Defined k) = obey-acting k
   command-acting Undefined = refuses
 

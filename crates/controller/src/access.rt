@@ -155,7 +155,13 @@ fn obey(panel: Panel, registers: Registers, mem: &mut [u8], rom: &[u8], command:
 }
 
 // A code is first taken apart; an undefined one ends the step there.
-fn command(panel: Panel, registers: Registers, mem: &mut [u8], rom: &[u8], code: u8) -> Acted
+pub(crate) fn command(
+    panel: Panel,
+    registers: Registers,
+    mem: &mut [u8],
+    rom: &[u8],
+    code: u8,
+) -> Acted
     requires { ⌜ Ready panel (registers .display) (now mem) (now rom) ⌝ }
     ensures { λ r. ⌜ replied r (now (mem .exit)) ≡ actedOf registers (now (mem .entry)) (commandOf panel (now (rom .entry)) (machine registers (now (mem .entry))) (decodeOf code)) ⌝ }
 {

@@ -1,10 +1,12 @@
 // The run of a log.
 ghost use mathlib.Core.Path.{_≡_};
-ghost use Prim.Native.Nat.{_*_, _≤_};
+ghost use mathlib.Core.List.{List};
+ghost use Prim.Native.Nat.{ℕ, _*_, _≤_};
 ghost use lib.ListN.{length, take};
 ghost use Rattle.controller.specs.Access.{machine, stepOf};
 ghost use Rattle.controller.specs.Run.{turnOf, runFrom, ranOf, ranAll, runOf, pairsOf};
 ghost use Rattle.controller.specs.Ready.{Runs, standing, turnedAll, turnedOf};
+use crate::access::command;
 use crate::access::step;
 use display::panel::Panel;
 use display::registers::Registers;
@@ -37,6 +39,31 @@ fn halted(number: u8, registers: Registers, given: usize) -> Turned
     }
 }
 
+// A command, which never answers. It is apart from the other kinds so that they make a small loop.
+fn obeyed(
+    panel: Panel,
+    registers: Registers,
+    mem: &mut [u8],
+    rom: &[u8],
+    given: usize,
+    code: u8,
+) -> Turned
+    requires { ⌜ Runs panel registers (now mem) (now rom) ⌝ }
+    ensures { λ r. ⌜ ((answers : List ℕ) → turnedAll r (now (mem .exit)) answers ≡ turnedOf (standing registers (now (mem .entry)) answers given) (turnOf (standing registers (now (mem .entry)) answers given) (stepOf panel (now (rom .entry)) (machine registers (now (mem .entry))) (record { kind = 1; byte = code })))) ⌝ }
+{
+    let acted = command(panel, registers, mem, rom, code);
+    let number = acted.number;
+    if number != 0 {
+        return halted(number, registers, given);
+    }
+    let after = acted.registers;
+    Turned {
+        number: 0,
+        registers: after,
+        given,
+    }
+}
+
 // One pair, and its answer where it is a read. A refused pair changes nothing, nor does a read without room.
 fn turn(
     panel: Panel,
@@ -51,6 +78,9 @@ fn turn(
     requires { ⌜ Runs panel registers (now mem) (now rom) ⌝ }
     ensures { λ r. ⌜ turnedAll r (now (mem .exit)) (now (answers .exit)) ≡ turnedOf (standing registers (now (mem .entry)) (now (answers .entry)) given) (turnOf (standing registers (now (mem .entry)) (now (answers .entry)) given) (stepOf panel (now (rom .entry)) (machine registers (now (mem .entry))) (record { kind = kind; byte = byte }))) ⌝ }
 {
+    if kind == 1 {
+        return obeyed(panel, registers, mem, rom, given, byte);
+    }
     let acted = step(panel, registers, mem, rom, kind, byte);
     let number = acted.number;
     if number != 0 {

@@ -1,0 +1,4 @@
+pub mod Doors
+pub mod Ends
+pub mod Images
+pub mod Refusals

@@ -1,0 +1,166 @@
+-- What a refusal leaves: on 1 and 2 every buffer, on a refused access and a refused frame too.
+use mathlib.Core.Path.{_≡_, refl, ap, sym, _∙_}
+use mathlib.Core.Bool.{Bool, true, false, cond, _&&_, _||_, false≢true}
+use mathlib.Core.List.{List, [], _∷_}
+use mathlib.Core.Logic.{_⊎_, inl, inr}
+use Prim.Native.Nat.{ℕ, suc, _%_, _<_}
+use native.Mathlib.Omega.{arith}
+use lib.Dec.{ltb, leb, eqb}
+use lib.ListN.{length, getD, take}
+use Rattle.ground.proofs.Tests.{cond-has}
+use Rattle.ground.specs.Bytes.{wordOf}
+use Rattle.codes.specs.Command.{neededOf, isOff, endsAuto, decodeOf}
+use Rattle.display.specs.State.{validPanel, validRegisters}
+use Rattle.display.specs.Frame.{lentLengths, frameFits, Painted, paintOf}
+use Rattle.controller.specs.Types.{Auto, Off, Write, Read, Command, Decoded, Defined, Undefined}
+use Rattle.controller.specs.Access.{Pair, Machine, machine, Step, done, answered, refused, obeyOf, commandOf, writeOf, readOf, stepOf, Accessed, actedOf, accessOf}
+use Rattle.controller.specs.Run.{pairsOf, Standing, Turn, went, halted, turnOf, short, afterTurn, runFrom, endNumber, RanAll, runOf}
+use Rattle.boundary.specs.Types.{Panel, Registers, Entry, State, Refused}
+use Rattle.boundary.specs.Image.{bytesOf}
+use Rattle.boundary.specs.Door.{entryOf, closes, keptOf}
+use Rattle.boundary.specs.Exports.{accessBy, accessBytes, RunEnd, runDone, runBy, runBytes, paintBy, paintBytes}
+use Rattle.boundary.proofs.Doors.{entered-length, entered-readable, entered-state}
+use Rattle.boundary.proofs.Images.{bytes-back}
+
+-- an access that is refused gives the registers and the memory that it got
+module _ (p : Panel) (r : Registers) (mem rom : List ℕ) (q : Pair) where
+  Stands : Accessed → Type 0
+  Stands o = (o .acted .number ≡ 0) ⊎ ((o .acted .registers ≡ r) × (o .memory ≡ mem))
+
+  acted-stands : (s : Step Machine) → Stands (actedOf r mem s)
+  unfolding Stands
+  acted-stands (done s) = inl refl
+  acted-stands (answered s b) = inl refl
+  acted-stands (refused n) = inr (refl, refl)
+
+  access-stands : Stands (accessOf p r mem rom q)
+  unfolding accessOf Stands
+  access-stands =
+      cond-has Stands (validPanel p && validRegisters r)
+      (cond-has Stands (lentLengths mem rom) (acted-stands (stepOf p rom (machine r mem) q)) (inr (refl, refl)))
+      (inr (refl, refl))
+
+module _ (p : Panel) (b mem rom : List ℕ) (q : Pair) (h : (i : ℕ) → getD b i 0 < 256) where
+  -- the registers buffer after a refused access, written back or not
+  kept : {x : Entry} {r s : Registers} (n : ℕ) → x ≡ entryOf p true b → x ≡ State r → s ≡ r → keptOf n s b ≡ b
+  kept n e k f =
+      cond-has (λ (l : List ℕ). l ≡ b) (closes n) refl
+      (ap bytesOf (f ∙ sym (entered-state p true b e k)) ∙ bytes-back b (entered-length p true b e k) (entered-readable p true b e k) h)
+
+  -- a number but 0 leaves registers and memory
+  pub access-untouched : (accessBytes p b mem rom q .result % 256 ≡ 0 → ⊥)
+      → (accessBytes p b mem rom q .registers ≡ b) × (accessBytes p b mem rom q .memory ≡ mem)
+  unfolding accessBytes Stands
+  access-untouched = go (entryOf p true b) refl
+    where
+      of : (r : Registers) (o : Accessed) → entryOf p true b ≡ State r → Stands p r mem rom q o → (wordOf (o .acted .number) (o .acted .answer) % 256 ≡ 0 → ⊥)
+          → (keptOf (o .acted .number) (o .acted .registers) b ≡ b) × (o .memory ≡ mem)
+      of r o e (inl z) k = absurd (k (omega arith))
+      of r o e (inr s) k = (kept (o .acted .number) refl e (s .0), s .1)
+
+      go : (x : Entry) → entryOf p true b ≡ x → (accessBy x p b mem rom q .result % 256 ≡ 0 → ⊥)
+          → (accessBy x p b mem rom q .registers ≡ b) × (accessBy x p b mem rom q .memory ≡ mem)
+      go (Refused n) e k = (refl, refl)
+      go (State r) e k = of r (accessOf p r mem rom q) e (access-stands p r mem rom q) k
+
+-- a frame that is refused stays
+pub paint-untouched : (p : Panel) (b mem rom frame : List ℕ) → (paintBytes p b mem rom frame .number ≡ 0 → ⊥) → paintBytes p b mem rom frame .frame ≡ frame
+unfolding paintBytes paintOf
+paint-untouched p b mem rom frame = go (entryOf p true b)
+  where
+    go : (x : Entry) → (paintBy x p mem rom frame .number ≡ 0 → ⊥) → paintBy x p mem rom frame .frame ≡ frame
+    go (Refused n) = λ k. refl
+    go (State r) =
+        cond-has (λ (o : Painted). (o .reply .number ≡ 0 → ⊥) → o .frame ≡ frame) (validPanel p && validRegisters r)
+        (cond-has (λ (o : Painted). (o .reply .number ≡ 0 → ⊥) → o .frame ≡ frame) (lentLengths mem rom && frameFits p frame) (λ k. absurd (k refl)) (λ k. refl))
+        (λ k. refl)
+
+-- no pair is refused by 1 or 2
+Late : Step Machine → Type 0
+Late (done s) = Unit {0}
+Late (answered s b) = Unit {0}
+Late (refused n) = closes n ≡ false
+
+LateTurn : Turn Machine → Type 0
+LateTurn (went s) = Unit {0}
+LateTurn (halted n) = closes n ≡ false
+
+module _ (p : Panel) (rom : List ℕ) where
+  step-late : (s : Machine) (q : Pair) → Late (stepOf p rom s q)
+  unfolding Late
+  step-late s q =
+      cond-has Late (eqb (q .kind) 0) (write-late (s .registers .bus .auto))
+      (cond-has Late (eqb (q .kind) 1) (command-late (decodeOf (q .byte)))
+      (cond-has Late (eqb (q .kind) 2) (read-late (s .registers .bus .auto))
+      (cond-has Late (eqb (q .kind) 3) tt (cond-has Late (eqb (q .kind) 4) tt refl))))
+    where
+      write-late : (a : Auto) → Late (writeOf a s (q .byte))
+      write-late Off = tt
+      write-late Write = tt
+      write-late Read = refl
+
+      read-late : (a : Auto) → Late (readOf a s)
+      read-late Off = tt
+      read-late Write = refl
+      read-late Read = tt
+
+      command-late : (d : Decoded) → Late (commandOf p rom s d)
+      command-late Undefined = refl
+      command-late (Defined k) =
+          cond-has Late (endsAuto k || isOff (s .registers .bus .auto))
+          (cond-has Late (leb (neededOf k) (s .registers .bus .pending .count)) tt refl) refl
+
+  turn-late : (s : Standing Machine) (o : Step Machine) → Late o → LateTurn (turnOf s o)
+  unfolding Late LateTurn
+  turn-late s (done m) k = tt
+  turn-late s (answered m b) k = cond-has LateTurn (ltb (s .given) (length (s .answers))) tt refl
+  turn-late s (refused n) k = k
+
+  run-late : (qs : List Pair) (k : ℕ) (s : Standing Machine) → closes (endNumber (runFrom (stepOf p rom) k qs s .end)) ≡ false
+  unfolding runFrom LateTurn
+  run-late [] k s = refl
+  run-late (q ∷ qs) k s = go (turnOf s (stepOf p rom (s .machine) q)) (turn-late s (stepOf p rom (s .machine) q) (step-late (s .machine) q)) (run-late qs (suc k))
+    where
+      go : (o : Turn Machine) → LateTurn o → ((t : Standing Machine) → closes (endNumber (runFrom (stepOf p rom) (suc k) qs t .end)) ≡ false)
+          → closes (endNumber (afterTurn o (λ t. runFrom (stepOf p rom) (suc k) qs t) (λ n. record { standing = s; taken = k; end = short n }) .end)) ≡ false
+      go (went t) h rest = rest t
+      go (halted n) h rest = h
+
+-- 1 and 2 leave every buffer of a run
+module _ (p : Panel) (b mem rom log : List ℕ) (limit : ℕ) (answers k : List ℕ) where
+  Stays : RanAll → Type 0
+  Stays o = closes (o .ran .number) ≡ true → (o .memory ≡ mem) × (o .answers ≡ answers)
+
+  run-stays : (r : Registers) → Stays (runOf p r mem rom log limit answers)
+  unfolding runOf Stays
+  run-stays r =
+      cond-has Stays (validPanel p && validRegisters r)
+      (cond-has Stays (lentLengths mem rom)
+      (cond-has Stays (eqb (length log % 2) 0)
+      (λ e. absurd (false≢true (sym (run-late p rom (take limit (pairsOf log)) 0 (record { machine = machine r mem; answers = answers; given = 0 })) ∙ e)))
+      (λ e. (refl, refl)))
+      (λ e. (refl, refl)))
+      (λ e. (refl, refl))
+
+  pub record RunStays (o : RunEnd) : Type 0 where
+    pub registers : o .registers ≡ b
+    pub memory : o .memory ≡ mem
+    pub answered : o .answers ≡ answers
+    pub counts : o .counts ≡ k
+
+  pub run-untouched : closes (runBytes p b mem rom log limit answers k .number) ≡ true → RunStays (runBytes p b mem rom log limit answers k)
+  unfolding runBytes Stays
+  run-untouched = go (entryOf p (eqb (length k) 3) b)
+    where
+      of : (o : RanAll) → Stays o → closes (o .ran .number) ≡ true → RunStays (runDone b k o)
+      of o s e =
+          record {
+            registers = ap (λ (t : Bool). cond t b (bytesOf (o .ran .registers))) e;
+            memory = s e .0;
+            answered = s e .1;
+            counts = ap (λ (t : Bool). cond t k (o .ran .place ∷ o .ran .taken ∷ o .ran .answers ∷ [])) e;
+          }
+
+      go : (x : Entry) → closes (runBy x p b mem rom log limit answers k .number) ≡ true → RunStays (runBy x p b mem rom log limit answers k)
+      go (Refused n) e = record { registers = refl; memory = refl; answered = refl; counts = refl }
+      go (State r) e = of (runOf p r mem rom log limit answers) (run-stays r) e

@@ -1,0 +1,38 @@
+-- `count` meets its contract: three stores, or none.
+use Rattle.boundary.proofs.Doors.{counts-closed, counts-open}
+use borrow.Author.Needs.{needs}
+use Rattle.boundary.proofs.door.count.Statement.{statement}
+use Rattle.boundary.proofs.door.count.Tie as tie
+
+returns : tie.Need-returns
+returns c =
+    let s = c .before .args in
+    counts-closed (s .number) (s .place) (s .taken) (s .answers) (s .counts .now) (c .if1 .taken)
+
+slice-write-counts : tie.Need-slice-write-counts
+slice-write-counts c = search needs
+
+slice-write-counts-2 : tie.Need-slice-write-counts-2
+slice-write-counts-2 c = search needs
+
+slice-write-counts-3 : tie.Need-slice-write-counts-3
+slice-write-counts-3 c = search needs
+
+same-length : tie.Need-same-length
+same-length c = search needs
+
+returns-2 : tie.Need-returns-2
+returns-2 c =
+    let s = c .before .args in
+    counts-open (s .number) (s .place) (s .taken) (s .answers) (s .counts .now) (c .if1 .left) (c .before .pre)
+
+pub count-spec : {M : Type 1} → statement M
+count-spec =
+    tie.close
+    (tie.spec
+    returns
+    slice-write-counts
+    slice-write-counts-2
+    slice-write-counts-3
+    same-length
+    returns-2)

@@ -1,0 +1,24 @@
+-- `keep` meets its contract: the registers encoded, or nothing.
+use Rattle.boundary.proofs.Doors.{kept-closed, kept-open}
+use borrow.Author.Needs.{needs}
+use Rattle.boundary.proofs.door.keep.Statement.{statement}
+use Rattle.boundary.proofs.door.keep.Tie as tie
+
+returns : tie.Need-returns
+returns c =
+    let s = c .before .before .args in
+    kept-closed (s .number) (s .registers) (s .bytes .now) (c .if1 .taken)
+
+encode-requires : tie.Need-encode-requires
+encode-requires c κs = search needs
+
+same-length : tie.Need-same-length
+same-length c = search needs
+
+returns-2 : tie.Need-returns-2
+returns-2 c =
+    let s = c .before .before .before .before .before .before .args in
+    kept-open (s .number) (s .registers) (s .bytes .now) (c .before .before .before .before .if1 .left) (c .before .before .encode .ensures)
+
+pub keep-spec : {M : Type 1} → statement M
+keep-spec = tie.close (tie.spec returns encode-requires same-length returns-2)

@@ -1,0 +1,28 @@
+-- What is refused before the controller is asked, and what is written back after.
+use Prim.Native.Nat.{ℕ}
+use mathlib.Core.Bool.{Bool, cond, _&&_, _||_}
+use mathlib.Core.List.{List, [], _∷_}
+use lib.Dec.{eqb}
+use lib.ListN.{length}
+use Rattle.display.specs.State.{validPanel}
+use Rattle.boundary.specs.Types.{Panel, Registers, Entry, State, Refused}
+use Rattle.boundary.specs.Image.{bytesOf, readable, stateOf}
+
+-- 1 panel not valid; 2 registers of another length than 25, or another buffer not as lent; 1 bytes that are no registers
+unfoldable pub entryOf : Panel → Bool → List ℕ → Entry
+entryOf p lent b =
+    cond (validPanel p)
+    (cond (eqb (length b) 25 && lent) (cond (readable b) (State (stateOf b)) (Refused 1)) (Refused 2))
+    (Refused 1)
+
+-- on 1 and 2 nothing is written
+abbrev pub closes : ℕ → Bool
+closes n = eqb n 1 || eqb n 2
+
+-- the registers buffer after
+abbrev pub keptOf : ℕ → Registers → List ℕ → List ℕ
+keptOf n r b = cond (closes n) b (bytesOf r)
+
+-- the counts buffer after: place, pairs taken, answers written
+abbrev pub countsOf : ℕ → ℕ → ℕ → ℕ → List ℕ → List ℕ
+countsOf n place taken answers k = cond (closes n) k (place ∷ taken ∷ answers ∷ [])

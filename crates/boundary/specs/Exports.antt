@@ -1,0 +1,94 @@
+-- What each export answers, and what it leaves in the buffers that it may write.
+use Prim.Native.Nat.{ℕ}
+use mathlib.Core.Bool.{true, cond}
+use mathlib.Core.List.{List}
+use lib.Dec.{eqb}
+use lib.ListN.{length}
+use Rattle.ground.specs.Bytes.{wordOf}
+use Rattle.display.specs.State.{resetRegisters}
+use Rattle.display.specs.Frame.{Painted, paintOf}
+use Rattle.controller.specs.Access.{Pair, Accessed, accessOf}
+use Rattle.controller.specs.Run.{RanAll, runOf}
+use Rattle.boundary.specs.Types.{Panel, Entry, State, Refused}
+use Rattle.boundary.specs.Image.{bytesOf}
+use Rattle.boundary.specs.Door.{entryOf, keptOf, countsOf}
+
+abbrev pub panelOf : ℕ → ℕ → ℕ → Panel
+panelOf columns lines width = record { columns = columns; lines = lines; width = width }
+
+-- an access
+pub record AccessEnd : Type 0 where
+  pub result : ℕ
+  pub registers : List ℕ
+  pub memory : List ℕ
+
+abbrev pub accessEnd : ℕ → List ℕ → List ℕ → AccessEnd
+accessEnd n registers memory = record { result = n; registers = registers; memory = memory }
+
+-- the number in the low byte, the byte read in the high one
+abbrev pub accessDone : List ℕ → Accessed → AccessEnd
+accessDone b o =
+    accessEnd (wordOf (o .acted .number) (o .acted .answer)) (keptOf (o .acted .number) (o .acted .registers) b) (o .memory)
+
+abbrev pub accessBy : Entry → Panel → List ℕ → List ℕ → List ℕ → Pair → AccessEnd
+accessBy (State r) p b mem rom q = accessDone b (accessOf p r mem rom q)
+accessBy (Refused n) p b mem rom q = accessEnd n b mem
+
+unfoldable pub accessBytes : Panel → List ℕ → List ℕ → List ℕ → Pair → AccessEnd
+accessBytes p b mem rom q = accessBy (entryOf p true b) p b mem rom q
+
+-- a run
+pub record RunEnd : Type 0 where
+  pub number : ℕ
+  pub registers : List ℕ
+  pub memory : List ℕ
+  pub answers : List ℕ
+  pub counts : List ℕ
+
+abbrev pub runEnd : ℕ → List ℕ → List ℕ → List ℕ → List ℕ → RunEnd
+runEnd n registers memory answers counts =
+    record { number = n; registers = registers; memory = memory; answers = answers; counts = counts }
+
+abbrev pub runDone : List ℕ → List ℕ → RanAll → RunEnd
+runDone b k o =
+    runEnd (o .ran .number) (keptOf (o .ran .number) (o .ran .registers) b) (o .memory) (o .answers)
+    (countsOf (o .ran .number) (o .ran .place) (o .ran .taken) (o .ran .answers) k)
+
+abbrev pub runBy : Entry → Panel → List ℕ → List ℕ → List ℕ → List ℕ → ℕ → List ℕ → List ℕ → RunEnd
+runBy (State r) p b mem rom log limit answers k = runDone b k (runOf p r mem rom log limit answers)
+runBy (Refused n) p b mem rom log limit answers k = runEnd n b mem answers k
+
+-- the counts are exactly three
+unfoldable pub runBytes : Panel → List ℕ → List ℕ → List ℕ → List ℕ → ℕ → List ℕ → List ℕ → RunEnd
+runBytes p b mem rom log limit answers k =
+    runBy (entryOf p (eqb (length k) 3) b) p b mem rom log limit answers k
+
+-- a frame
+pub record PaintEnd : Type 0 where
+  pub number : ℕ
+  pub frame : List ℕ
+
+abbrev pub paintEnd : ℕ → List ℕ → PaintEnd
+paintEnd n frame = record { number = n; frame = frame }
+
+abbrev pub paintDone : Painted → PaintEnd
+paintDone o = paintEnd (o .reply .number) (o .frame)
+
+abbrev pub paintBy : Entry → Panel → List ℕ → List ℕ → List ℕ → PaintEnd
+paintBy (State r) p mem rom frame = paintDone (paintOf p r mem rom frame)
+paintBy (Refused n) p mem rom frame = paintEnd n frame
+
+unfoldable pub paintBytes : Panel → List ℕ → List ℕ → List ℕ → List ℕ → PaintEnd
+paintBytes p b mem rom frame = paintBy (entryOf p true b) p mem rom frame
+
+-- a reset
+pub record ResetEnd : Type 0 where
+  pub number : ℕ
+  pub registers : List ℕ
+
+abbrev pub resetEnd : ℕ → List ℕ → ResetEnd
+resetEnd n registers = record { number = n; registers = registers }
+
+-- 2 for registers of another length than 25, which stay
+unfoldable pub resetBytes : List ℕ → ResetEnd
+resetBytes b = cond (eqb (length b) 25) (resetEnd 0 (bytesOf resetRegisters)) (resetEnd 2 b)

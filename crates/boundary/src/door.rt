@@ -1,0 +1,62 @@
+// What each export does before the controller is asked, and after.
+ghost use mathlib.Core.Path.{_≡_};
+ghost use lib.ListN.{length};
+ghost use Rattle.boundary.specs.Door.{entryOf, keptOf, countsOf};
+use super::image::decode;
+use super::image::encode;
+use super::image::is_readable;
+use display::panel::Panel;
+use display::registers::Registers;
+
+// The registers that stand in a buffer, or the number of a refusal.
+pub(crate) enum Entry {
+    State(Registers),
+    Refused(u8),
+}
+
+// `lent` says whether the other buffers whose length is fixed here have it.
+pub(crate) fn enter(panel: Panel, lent: bool, bytes: &[u8]) -> Entry
+    ensures { λ r. ⌜ r ≡ entryOf panel lent (now (bytes .entry)) ⌝ }
+{
+    if panel.valid() {
+        let fits = (bytes.len() == 25) & lent;
+        if fits {
+            if is_readable(bytes) {
+                let registers = decode(bytes);
+                Entry::State(registers)
+            } else {
+                Entry::Refused(1)
+            }
+        } else {
+            Entry::Refused(2)
+        }
+    } else {
+        Entry::Refused(1)
+    }
+}
+
+// The registers written back, unless nothing was touched.
+pub(crate) fn keep(number: u8, registers: Registers, bytes: &mut [u8])
+    requires { ⌜ length (now bytes) ≡ 25 ⌝ }
+    ensures { λ _. ⌜ now (bytes .exit) ≡ keptOf number registers (now (bytes .entry)) ⌝ }
+{
+    let closed = (number == 1) | (number == 2);
+    if closed {
+        return;
+    }
+    encode(registers, bytes);
+}
+
+// A run's three counts, unless nothing was touched.
+pub(crate) fn count(number: u8, place: usize, taken: usize, answers: usize, counts: &mut [usize])
+    requires { ⌜ length (now counts) ≡ 3 ⌝ }
+    ensures { λ _. ⌜ now (counts .exit) ≡ countsOf number place taken answers (now (counts .entry)) ⌝ }
+{
+    let closed = (number == 1) | (number == 2);
+    if closed {
+        return;
+    }
+    counts[0] = place;
+    counts[1] = taken;
+    counts[2] = answers;
+}

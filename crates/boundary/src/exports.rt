@@ -1,0 +1,117 @@
+// The functions that C calls: every input gets a reply.
+ghost use mathlib.Core.Path.{_≡_};
+ghost use Rattle.boundary.specs.Exports.{panelOf, accessEnd, accessBytes, runEnd, runBytes, paintEnd, paintBytes, resetEnd, resetBytes};
+use super::door::Entry;
+use super::door::count;
+use super::door::enter;
+use super::door::keep;
+use super::image::encode;
+use controller::access::access;
+use controller::run::run;
+use display::frame::paint;
+use display::panel::Panel;
+use display::registers::Registers;
+use ground::bytes::word;
+
+// One access: the number in the low byte, the byte read in the high one.
+#[no_mangle]
+pub extern "C" fn t6963c_access(
+    columns: usize,
+    lines: usize,
+    width: usize,
+    registers: &mut [u8],
+    memory: &mut [u8],
+    rom: &[u8],
+    kind: u8,
+    byte: u8,
+) -> u16
+    ensures { λ r. ⌜ accessEnd r (now (registers .exit)) (now (memory .exit)) ≡ accessBytes (panelOf columns lines width) (now (registers .entry)) (now (memory .entry)) (now (rom .entry)) (record { kind = kind; byte = byte }) ⌝ }
+{
+    let panel = Panel {
+        columns,
+        lines,
+        width,
+    };
+    match enter(panel, true, registers) {
+        Entry::State(state) => {
+            let acted = access(panel, state, memory, rom, kind, byte);
+            let after = acted.registers;
+            keep(acted.number, after, registers);
+            word(acted.number, acted.answer)
+        }
+        Entry::Refused(number) => word(number, 0),
+    }
+}
+
+// At most `limit` pairs of a log: the number. `counts` becomes place, pairs taken, answers written.
+#[no_mangle]
+pub extern "C" fn t6963c_run(
+    columns: usize,
+    lines: usize,
+    width: usize,
+    registers: &mut [u8],
+    memory: &mut [u8],
+    rom: &[u8],
+    log: &[u8],
+    limit: usize,
+    answers: &mut [u8],
+    counts: &mut [usize],
+) -> u8
+    ensures { λ r. ⌜ runEnd r (now (registers .exit)) (now (memory .exit)) (now (answers .exit)) (now (counts .exit)) ≡ runBytes (panelOf columns lines width) (now (registers .entry)) (now (memory .entry)) (now (rom .entry)) (now (log .entry)) limit (now (answers .entry)) (now (counts .entry)) ⌝ }
+{
+    let panel = Panel {
+        columns,
+        lines,
+        width,
+    };
+    let counted = counts.len() == 3;
+    match enter(panel, counted, registers) {
+        Entry::State(state) => {
+            let ran = run(panel, state, memory, rom, log, limit, answers);
+            let after = ran.registers;
+            keep(ran.number, after, registers);
+            count(ran.number, ran.place, ran.taken, ran.answers, counts);
+            ran.number
+        }
+        Entry::Refused(number) => number,
+    }
+}
+
+// The frame: the number.
+#[no_mangle]
+pub extern "C" fn t6963c_paint(
+    columns: usize,
+    lines: usize,
+    width: usize,
+    registers: &[u8],
+    memory: &[u8],
+    rom: &[u8],
+    frame: &mut [u8],
+) -> u8
+    ensures { λ r. ⌜ paintEnd r (now (frame .exit)) ≡ paintBytes (panelOf columns lines width) (now (registers .entry)) (now (memory .entry)) (now (rom .entry)) (now (frame .entry)) ⌝ }
+{
+    let panel = Panel {
+        columns,
+        lines,
+        width,
+    };
+    match enter(panel, true, registers) {
+        Entry::State(state) => {
+            let reply = paint(panel, state, memory, rom, frame);
+            reply.number
+        }
+        Entry::Refused(number) => number,
+    }
+}
+
+// The reset state.
+#[no_mangle]
+pub extern "C" fn t6963c_reset(registers: &mut [u8]) -> u8
+    ensures { λ r. ⌜ resetEnd r (now (registers .exit)) ≡ resetBytes (now (registers .entry)) ⌝ }
+{
+    if registers.len() == 25 {
+        encode(Registers::reset(), registers);
+        return 0;
+    }
+    2
+}

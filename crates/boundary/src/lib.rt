@@ -1,0 +1,4 @@
+// The controller for C: numbers and slices, the registers as bytes.
+mod door;
+pub mod exports;
+mod image;

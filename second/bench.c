@@ -1,0 +1,171 @@
+/* How quick the proved controller is beside the second one and beside C written for speed, in one process.
+   Medians of rounds; each round times the three one after the other on the same input. */
+#include "../include/bintarumpe.h"
+#include "fast.h"
+#include "generate.h"
+#include "second.h"
+
+int printf(const char *format, ...);
+int clock_gettime(int clock, long *time);
+void *memcpy(void *to, const void *from, unsigned long count);
+int memcmp(const void *one, const void *other, unsigned long count);
+
+enum { REGISTERS = 25, ROUNDS = 15, LOG = 400000, FRAME = 8 * 16 * 80 };
+
+static unsigned char memory[SECOND_MEMORY_LENGTH], start[SECOND_MEMORY_LENGTH], rom[SECOND_ROM_LENGTH];
+static unsigned char log_bytes[LOG], answers[LOG], frame[FRAME], other[FRAME];
+
+static double now(void)
+{
+    long time[2];
+    clock_gettime(1, time);
+    return (double)time[0] + (double)time[1] / 1e9;
+}
+
+static double median(double *values)
+{
+    for (unsigned i = 1; i < ROUNDS; i++)
+        for (unsigned j = i; j > 0 && values[j] < values[j - 1]; j--) {
+            const double kept = values[j];
+            values[j] = values[j - 1], values[j - 1] = kept;
+        }
+    return values[ROUNDS / 2];
+}
+
+static void report(const char *what, double units, double *proved, double *second, double *fast)
+{
+    const double p = units / median(proved), s = units / median(second), f = units / median(fast);
+    printf("%-38s %12.0f/s   second %12.0f/s (%.2f)   fast C %12.0f/s (%.2f)\n", what, p, s, p / s, f, p / f);
+}
+
+static void encode(const struct second_registers *r, unsigned char *b)
+{
+    const unsigned fields[REGISTERS] = {
+        r->cursor_x, r->cursor_y, r->offset, r->pointer % 256, r->pointer / 256, r->text_home % 256, r->text_home / 256,
+        r->graphic_home % 256, r->graphic_home / 256, r->text_area, r->graphic_area, r->combination, r->external,
+        r->graphic, r->text, r->cursor, r->blink, r->cursor_height, r->auto_mode, r->pending, r->older, r->newest,
+        r->latch, r->error, r->phase == SECOND_PHASE_NORMAL};
+    for (unsigned i = 0; i < REGISTERS; i++)
+        b[i] = (unsigned char)fields[i];
+}
+
+static unsigned long put(unsigned long at, unsigned kind, unsigned byte)
+{
+    log_bytes[at] = (unsigned char)kind, log_bytes[at + 1] = (unsigned char)byte;
+    return at + 2;
+}
+
+/* A log of one kind of work, over and over. */
+static unsigned long make(unsigned work)
+{
+    unsigned long at = 0;
+    unsigned n = 0;
+    while (at + 700 < LOG) {
+        n++;
+        if (work == 0) { /* blocks: pointer set, B0H, bytes, B2H */
+            at = put(at, 0, n & 255), at = put(at, 0, n >> 8 & 255), at = put(at, 1, 0x24), at = put(at, 1, 0xb0);
+            for (unsigned i = 0; i < 240; i++)
+                at = put(at, 0, i & 255);
+            at = put(at, 1, 0xb2);
+        } else if (work == 1) { /* single stores: pointer set, datum, C0H */
+            at = put(at, 0, n & 255), at = put(at, 0, n >> 8 & 255), at = put(at, 1, 0x24), at = put(at, 0, n & 255), at = put(at, 1, 0xc0);
+        } else { /* a driver that asks first, with reads, bits, modes and ticks */
+            at = put(at, 3, 0), at = put(at, 0, n & 255), at = put(at, 3, 0), at = put(at, 0, n & 63), at = put(at, 3, 0);
+            at = put(at, 1, 0x24), at = put(at, 1, 0xf8 + n % 8), at = put(at, 1, 0xc1), at = put(at, 2, 0);
+            at = put(at, 1, n & 1 ? 0x80 : 0x81), at = put(at, 1, 0x9c + n % 4), at = put(at, 4, 0), at = put(at, 1, 0xa0 + n % 8);
+        }
+    }
+    return at;
+}
+
+static int runs(void)
+{
+    static const char *const works[] = {"run, blocks in auto write", "run, single stores", "run, asking, reads, bits, modes"};
+    const struct second_panel panel = {30, 8, 8};
+    for (unsigned work = 0; work < 3; work++) {
+        const unsigned long length = make(work);
+        double times[3][ROUNDS];
+        for (unsigned round = 0; round < ROUNDS; round++) {
+            struct second_registers r, q;
+            unsigned char b[REGISTERS], c[REGISTERS];
+            unsigned long counts[3];
+            second_reset(&r), q = r, encode(&r, b);
+            double before = now();
+            const unsigned number = t6963c_run(panel.columns, panel.lines, panel.width, b, REGISTERS, memory, SECOND_MEMORY_LENGTH, rom,
+                                               SECOND_ROM_LENGTH, log_bytes, length, length, answers, LOG, counts, 3);
+            times[0][round] = now() - before, before = now();
+            const struct second_run_reply reply = second_run(&panel, &r, memory, SECOND_MEMORY_LENGTH, rom, SECOND_ROM_LENGTH, log_bytes,
+                                                             length, length, answers, LOG);
+            times[1][round] = now() - before, before = now();
+            const struct second_run_reply quick = fast_run(&panel, &q, memory, rom, log_bytes, length, length, answers, LOG);
+            times[2][round] = now() - before;
+            encode(&q, c);
+            if (number || reply.number || quick.number || counts[1] != quick.taken || memcmp(b, c, REGISTERS)) {
+                printf("the runs differ\n");
+                return 1;
+            }
+        }
+        report(works[work], (double)length / 2, times[0], times[1], times[2]);
+    }
+    return 0;
+}
+
+static int paints(void)
+{
+    static const struct second_panel panels[] = {{16, 8, 8}, {40, 16, 6}, {80, 16, 8}};
+    static const char *const modes[] = {"text", "both layers", "attribute"};
+    for (unsigned which = 0; which < 3; which++)
+        for (unsigned mode = 0; mode < 3; mode++) {
+            const struct second_panel *p = &panels[which];
+            const unsigned long length = 8UL * p->lines * ((p->columns * p->width + 7) / 8);
+            const unsigned times_each = which == 0 ? 40 : 8;
+            double times[3][ROUNDS];
+            struct second_registers r;
+            unsigned char b[REGISTERS];
+            second_reset(&r);
+            r.text = 1, r.graphic = mode > 0, r.combination = mode == 2 ? SECOND_ATTRIBUTE : SECOND_EXOR, r.text_home = 0x4000;
+            r.text_area = r.graphic_area = p->columns, r.offset = 2, r.cursor = 1, r.cursor_x = 3, r.cursor_y = 2, r.cursor_height = 2;
+            encode(&r, b);
+            for (unsigned round = 0; round < ROUNDS; round++) {
+                double before = now();
+                for (unsigned i = 0; i < times_each; i++)
+                    if (t6963c_paint(p->columns, p->lines, p->width, b, REGISTERS, start, SECOND_MEMORY_LENGTH, rom, SECOND_ROM_LENGTH, frame, length))
+                        return 1;
+                times[0][round] = now() - before, before = now();
+                for (unsigned i = 0; i < times_each; i++)
+                    second_frame(p, &r, start, SECOND_MEMORY_LENGTH, rom, SECOND_ROM_LENGTH, other, length);
+                times[1][round] = now() - before, before = now();
+                for (unsigned i = 0; i < times_each; i++)
+                    fast_frame(p, &r, start, rom, other);
+                times[2][round] = now() - before;
+                if (memcmp(frame, other, length)) {
+                    printf("the frames differ\n");
+                    return 1;
+                }
+            }
+            char what[64] = "frame ";
+            unsigned at = 6;
+            const unsigned numbers[3] = {p->columns, p->lines, p->width};
+            for (unsigned i = 0; i < 3; i++) {
+                what[at++] = (char)('0' + numbers[i] / 10), what[at++] = (char)('0' + numbers[i] % 10), what[at++] = i < 2 ? 'x' : ',';
+            }
+            what[at++] = ' ';
+            for (const char *text = modes[mode]; *text; text++)
+                what[at++] = *text;
+            what[at] = 0;
+            report(what, times_each, times[0], times[1], times[2]);
+        }
+    return 0;
+}
+
+int main(void)
+{
+    struct generate_random random = {7};
+    for (unsigned long i = 0; i < SECOND_MEMORY_LENGTH; i++)
+        start[i] = (unsigned char)generate_next(&random);
+    for (unsigned long i = 0; i < SECOND_ROM_LENGTH; i++)
+        rom[i] = (unsigned char)generate_next(&random);
+    memcpy(memory, start, SECOND_MEMORY_LENGTH);
+    printf("pairs or frames a second; in brackets the proved one as a multiple of the other\n");
+    return runs() || paints();
+}

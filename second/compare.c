@@ -1,0 +1,215 @@
+/* The proved controller against the second one, in one process: random logs, from random valid and invalid states and memories,
+   in two parts, everything compared after each. `compare SEED PAIRS` goes on until it has compared that many pairs. */
+#include "../include/bintarumpe.h"
+#include "generate.h"
+#include "second.h"
+
+int printf(const char *format, ...);
+unsigned long long strtoull(const char *text, char **end, int base);
+void *memcpy(void *to, const void *from, unsigned long count);
+int memcmp(const void *one, const void *other, unsigned long count);
+
+enum { REGISTERS = 25, ANSWERS = 300, FRAME = 8 * 16 * 80, LOG = 1200 };
+
+/* One side's buffers. */
+struct side {
+    unsigned char memory[SECOND_MEMORY_LENGTH];
+    unsigned char answers[ANSWERS];
+    unsigned char frame[FRAME + 1];
+    unsigned char registers[REGISTERS];
+    unsigned number;
+    unsigned long place, taken, given;
+    unsigned painted;
+};
+
+/* What both sides are given. */
+struct trial {
+    struct second_panel panel;
+    unsigned char registers[REGISTERS];
+    unsigned char memory[SECOND_MEMORY_LENGTH];
+    unsigned char rom[SECOND_ROM_LENGTH];
+    unsigned char log[LOG];
+    unsigned long log_length, limit, answers_length, frame_length, memory_length, rom_length;
+};
+
+static struct trial trial;
+static struct side proved, second;
+
+static void to_bytes(const struct second_registers *r, unsigned char *bytes)
+{
+    const unsigned fields[REGISTERS] = {
+        r->cursor_x, r->cursor_y, r->offset, r->pointer % 256, r->pointer / 256, r->text_home % 256, r->text_home / 256,
+        r->graphic_home % 256, r->graphic_home / 256, r->text_area, r->graphic_area, r->combination, r->external,
+        r->graphic, r->text, r->cursor, r->blink, r->cursor_height, r->auto_mode, r->pending, r->older, r->newest,
+        r->latch, r->error, r->phase == SECOND_PHASE_NORMAL ? 1 : r->phase == SECOND_PHASE_OFF ? 0 : r->phase};
+    for (unsigned i = 0; i < REGISTERS; i++)
+        bytes[i] = (unsigned char)fields[i];
+}
+
+static void from_bytes(const unsigned char *b, struct second_registers *r)
+{
+    r->cursor_x = b[0], r->cursor_y = b[1], r->offset = b[2], r->pointer = b[3] + 256u * b[4];
+    r->text_home = b[5] + 256u * b[6], r->graphic_home = b[7] + 256u * b[8], r->text_area = b[9], r->graphic_area = b[10];
+    r->combination = b[11], r->external = b[12], r->graphic = b[13], r->text = b[14], r->cursor = b[15], r->blink = b[16];
+    r->cursor_height = b[17], r->auto_mode = b[18], r->pending = b[19], r->older = b[20], r->newest = b[21], r->latch = b[22];
+    r->error = b[23], r->phase = b[24] == 1 ? SECOND_PHASE_NORMAL : b[24] == 0 ? SECOND_PHASE_OFF : b[24];
+}
+
+/* The proved side, through its boundary. */
+static void run_proved(struct side *s, unsigned long from, unsigned long limit)
+{
+    unsigned long counts[3] = {0, 0, 0};
+    const unsigned long before = s->given;
+    s->number = t6963c_run(trial.panel.columns, trial.panel.lines, trial.panel.width, s->registers, REGISTERS, s->memory,
+                           trial.memory_length, trial.rom, trial.rom_length, trial.log + from, trial.log_length - from, limit,
+                           s->answers + before, trial.answers_length - before, counts, 3);
+    s->place = counts[0], s->taken = counts[1], s->given = before + counts[2];
+    s->painted = t6963c_paint(trial.panel.columns, trial.panel.lines, trial.panel.width, s->registers, REGISTERS, s->memory,
+                              trial.memory_length, trial.rom, trial.rom_length, s->frame, trial.frame_length);
+}
+
+static void run_second(struct side *s, unsigned long from, unsigned long limit)
+{
+    struct second_registers r;
+    const unsigned long before = s->given;
+    from_bytes(s->registers, &r);
+    const struct second_run_reply reply =
+        second_run(&trial.panel, &r, s->memory, trial.memory_length, trial.rom, trial.rom_length, trial.log + from,
+                   trial.log_length - from, limit, s->answers + before, trial.answers_length - before);
+    s->number = reply.number, s->place = reply.place, s->taken = reply.taken, s->given = before + reply.answers;
+    to_bytes(&r, s->registers);
+    s->painted = second_frame(&trial.panel, &r, s->memory, trial.memory_length, trial.rom, trial.rom_length, s->frame,
+                              trial.frame_length);
+}
+
+static int same(void)
+{
+    return proved.number == second.number && proved.place == second.place && proved.taken == second.taken &&
+           proved.given == second.given && proved.painted == second.painted &&
+           memcmp(proved.registers, second.registers, REGISTERS) == 0 &&
+           memcmp(proved.memory, second.memory, SECOND_MEMORY_LENGTH) == 0 &&
+           memcmp(proved.answers, second.answers, ANSWERS) == 0 && memcmp(proved.frame, second.frame, FRAME + 1) == 0;
+}
+
+static void begin(struct side *s)
+{
+    memcpy(s->memory, trial.memory, SECOND_MEMORY_LENGTH);
+    memcpy(s->registers, trial.registers, REGISTERS);
+    for (unsigned i = 0; i < ANSWERS; i++)
+        s->answers[i] = (unsigned char)(i * 7);
+    for (unsigned i = 0; i <= FRAME; i++)
+        s->frame[i] = (unsigned char)(i * 5);
+    s->given = 0;
+}
+
+/* Both parts of the log; the second only where the first stopped by number. Pairs taken, or -1 where they differ. */
+static long compare(void)
+{
+    long pairs;
+    begin(&proved), begin(&second);
+    run_proved(&proved, 0, trial.limit), run_second(&second, 0, trial.limit);
+    if (!same())
+        return -1;
+    pairs = (long)proved.taken;
+    if (proved.number == 0 && 2 * proved.taken < trial.log_length) {
+        const unsigned long from = 2 * proved.taken;
+        run_proved(&proved, from, ~0UL), run_second(&second, from, ~0UL);
+        if (!same())
+            return -1;
+        pairs += (long)proved.taken;
+    }
+    return pairs + 1;
+}
+
+static unsigned below(struct generate_random *random, unsigned bound) { return generate_below(random, bound); }
+
+/* A valid state but for one field in twenty. */
+static void make_state(struct generate_random *random)
+{
+    struct second_registers r;
+    r.cursor_x = below(random, 4) ? below(random, trial.panel.columns % 128 + 1) : below(random, 128);
+    r.cursor_y = below(random, 4) ? below(random, trial.panel.lines % 32 + 1) : below(random, 32);
+    r.offset = below(random, 32), r.pointer = below(random, 65536), r.text_home = below(random, 65536);
+    r.graphic_home = below(random, 3) ? below(random, 65536) : r.pointer;
+    r.text_area = below(random, 2) ? trial.panel.columns % 256 : below(random, 256);
+    r.graphic_area = below(random, 2) ? trial.panel.columns % 256 : below(random, 256);
+    r.combination = below(random, 4), r.external = below(random, 2), r.graphic = below(random, 4) != 0;
+    r.text = below(random, 4) != 0, r.cursor = below(random, 2), r.blink = below(random, 2);
+    r.cursor_height = 1 + below(random, 8), r.auto_mode = below(random, 4) ? 0 : below(random, 3);
+    r.pending = below(random, 3), r.older = r.pending == 2 ? below(random, 256) : 0;
+    r.newest = r.pending ? below(random, 256) : 0, r.latch = below(random, 256), r.error = below(random, 2);
+    r.phase = below(random, 2) ? SECOND_PHASE_NORMAL : SECOND_PHASE_OFF;
+    to_bytes(&r, trial.registers);
+    if (below(random, 20) == 0)
+        trial.registers[below(random, REGISTERS)] = (unsigned char)below(random, 256);
+}
+
+static void make(unsigned long long seed)
+{
+    static unsigned char input[GENERATE_ROOM];
+    struct generate_random random = {seed ^ 0x5eedULL};
+    const unsigned long length = generate_input(seed, input);
+    trial.panel.columns = length > 0 ? input[0] : 0, trial.panel.lines = length > 1 ? input[1] : 0;
+    trial.panel.width = length > 2 ? input[2] : 0;
+    trial.log_length = length > 3 ? length - 3 : 0;
+    if (trial.log_length > LOG)
+        trial.log_length = LOG - below(&random, 2);
+    memcpy(trial.log, input + 3, trial.log_length);
+    for (unsigned long i = 0; i < SECOND_MEMORY_LENGTH; i += 8) {
+        const unsigned long long word = generate_next(&random);
+        memcpy(trial.memory + i, &word, 8);
+    }
+    for (unsigned long i = 0; i < SECOND_ROM_LENGTH; i++)
+        trial.rom[i] = (unsigned char)generate_next(&random);
+    make_state(&random);
+    trial.limit = below(&random, (unsigned)(trial.log_length / 2 + 2));
+    trial.answers_length = below(&random, 3) ? ANSWERS : below(&random, ANSWERS + 1);
+    trial.frame_length = 8UL * trial.panel.lines * ((trial.panel.columns * trial.panel.width + 7UL) / 8);
+    if (trial.frame_length > FRAME || below(&random, 40) == 0)
+        trial.frame_length = below(&random, FRAME);
+    trial.memory_length = below(&random, 40) ? SECOND_MEMORY_LENGTH : SECOND_MEMORY_LENGTH - 1;
+    trial.rom_length = below(&random, 40) ? SECOND_ROM_LENGTH : SECOND_ROM_LENGTH - 1;
+}
+
+/* Pairs taken out one by one while the two still differ. */
+static void shrink(unsigned long long seed)
+{
+    for (unsigned long i = trial.log_length / 2; i-- > 0;) {
+        const struct trial kept = trial;
+        memcpy(trial.log + 2 * i, kept.log + 2 * i + 2, kept.log_length - 2 * i - 2);
+        trial.log_length -= 2;
+        if (compare() >= 0)
+            trial = kept;
+    }
+    (void)compare();
+    printf("differs at seed %llu: panel %u %u %u, limit %lu, answers %lu, log", seed, trial.panel.columns, trial.panel.lines,
+           trial.panel.width, trial.limit, trial.answers_length);
+    for (unsigned long i = 0; i < trial.log_length; i++)
+        printf(" %02X", trial.log[i]);
+    printf("\n  registers");
+    for (unsigned i = 0; i < REGISTERS; i++)
+        printf(" %02X", trial.registers[i]);
+    printf("\n  proved: number %u place %lu taken %lu given %lu; second: number %u place %lu taken %lu given %lu\n", proved.number,
+           proved.place, proved.taken, proved.given, second.number, second.place, second.taken, second.given);
+}
+
+int main(int count, char **words)
+{
+    unsigned long long seed = count > 1 ? strtoull(words[1], 0, 10) : 1;
+    const unsigned long long wanted = count > 2 ? strtoull(words[2], 0, 10) : 100000;
+    unsigned long long pairs = 0, passed = 0, failed = 0;
+    const unsigned long long first = seed;
+    for (; pairs < wanted && failed < 3; seed++) {
+        make(seed);
+        const long taken = compare();
+        if (taken < 0) {
+            failed++;
+            shrink(seed);
+        } else {
+            passed++;
+            pairs += (unsigned long long)taken;
+        }
+    }
+    printf("seeds %llu to %llu, %llu pairs\n%llu passed, %llu failed\n", first, seed - 1, pairs, passed, failed);
+    return failed != 0;
+}
