@@ -3,6 +3,7 @@
 #include "../include/bintarumpe.h"
 #include "fast.h"
 #include "generate.h"
+#include "image.h"
 #include "second.h"
 
 int printf(const char *format, ...);
@@ -10,7 +11,7 @@ int clock_gettime(int clock, long *time);
 void *memcpy(void *to, const void *from, unsigned long count);
 int memcmp(const void *one, const void *other, unsigned long count);
 
-enum { REGISTERS = 25, ROUNDS = 15, LOG = 400000, FRAME = 8 * 16 * 80 };
+enum { ROUNDS = 15, LOG = 400000, FRAME = 8 * 16 * 80 };
 
 static unsigned char memory[SECOND_MEMORY_LENGTH], start[SECOND_MEMORY_LENGTH], rom[SECOND_ROM_LENGTH];
 static unsigned char log_bytes[LOG], answers[LOG], frame[FRAME], other[FRAME];
@@ -36,17 +37,6 @@ static void report(const char *what, double units, double *proved, double *secon
 {
     const double p = units / median(proved), s = units / median(second), f = units / median(fast);
     printf("%-38s %12.0f/s   second %12.0f/s (%.2f)   fast C %12.0f/s (%.2f)\n", what, p, s, p / s, f, p / f);
-}
-
-static void encode(const struct second_registers *r, unsigned char *b)
-{
-    const unsigned fields[REGISTERS] = {
-        r->cursor_x, r->cursor_y, r->offset, r->pointer % 256, r->pointer / 256, r->text_home % 256, r->text_home / 256,
-        r->graphic_home % 256, r->graphic_home / 256, r->text_area, r->graphic_area, r->combination, r->external,
-        r->graphic, r->text, r->cursor, r->blink, r->cursor_height, r->auto_mode, r->pending, r->older, r->newest,
-        r->latch, r->error, r->phase == SECOND_PHASE_NORMAL};
-    for (unsigned i = 0; i < REGISTERS; i++)
-        b[i] = (unsigned char)fields[i];
 }
 
 static unsigned long put(unsigned long at, unsigned kind, unsigned byte)
@@ -89,7 +79,7 @@ static int runs(void)
             struct second_registers r, q;
             unsigned char b[REGISTERS], c[REGISTERS];
             unsigned long counts[3];
-            second_reset(&r), q = r, encode(&r, b);
+            second_reset(&r), q = r, to_bytes(&r, b);
             double before = now();
             const unsigned number = t6963c_run(panel.columns, panel.lines, panel.width, b, REGISTERS, memory, SECOND_MEMORY_LENGTH, rom,
                                                SECOND_ROM_LENGTH, log_bytes, length, length, answers, LOG, counts, 3);
@@ -99,7 +89,7 @@ static int runs(void)
             times[1][round] = now() - before, before = now();
             const struct second_run_reply quick = fast_run(&panel, &q, memory, rom, log_bytes, length, length, answers, LOG);
             times[2][round] = now() - before;
-            encode(&q, c);
+            to_bytes(&q, c);
             if (number || reply.number || quick.number || counts[1] != quick.taken || memcmp(b, c, REGISTERS)) {
                 printf("the runs differ\n");
                 return 1;
@@ -125,7 +115,7 @@ static int paints(void)
             second_reset(&r);
             r.text = 1, r.graphic = mode > 0, r.combination = mode == 2 ? SECOND_ATTRIBUTE : SECOND_EXOR, r.text_home = 0x4000;
             r.text_area = r.graphic_area = p->columns, r.offset = 2, r.cursor = 1, r.cursor_x = 3, r.cursor_y = 2, r.cursor_height = 2;
-            encode(&r, b);
+            to_bytes(&r, b);
             for (unsigned round = 0; round < ROUNDS; round++) {
                 double before = now();
                 for (unsigned i = 0; i < times_each; i++)

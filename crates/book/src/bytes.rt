@@ -5,14 +5,14 @@ ghost use lib.ListN.{length, getD};
 ghost use Rattle.book.specs.Contents.{wordAt};
 
 // A byte of the book, 0 behind its end.
-pub fn byte_at(book: &[u8], at: usize) -> u8
+pub(crate) fn byte_at(book: &[u8], at: usize) -> u8
     ensures { λ r. ⌜ r ≡ getD (now (book .entry)) at 0 ⌝ }
 {
     if at < book.len() { book[at] } else { 0 }
 }
 
 // 16 bits, low byte first.
-pub fn word_at(book: &[u8], at: usize) -> u16
+pub(crate) fn word_at(book: &[u8], at: usize) -> u16
     requires { ⌜ at ≤ length (now book) ⌝ }
     ensures { λ r. ⌜ r ≡ wordAt (now (book .entry)) at ⌝ }
 {

@@ -4,14 +4,14 @@ ghost use Prim.Native.Nat.{_*_};
 ghost use lib.Dec.{ltb, leb};
 
 // x below a·b: b goes into x fewer than a times.
-pub fn below_product(x: usize, a: usize, b: usize) -> bool
+pub(crate) fn below_product(x: usize, a: usize, b: usize) -> bool
     ensures { λ r. ⌜ r ≡ ltb x (a * b) ⌝ }
 {
     if b == 0 { false } else { x / b < a }
 }
 
 // x at most a·b.
-pub fn within_product(x: usize, a: usize, b: usize) -> bool
+pub(crate) fn within_product(x: usize, a: usize, b: usize) -> bool
     ensures { λ r. ⌜ r ≡ leb x (a * b) ⌝ }
 {
     if x == 0 {
