@@ -5,7 +5,7 @@ use mathlib.Core.Bool.{Bool, true, false, cond, _||_, true≢false}
 use mathlib.Core.List.{List}
 use Prim.Native.Nat.{ℕ, zero, suc, _+_, _<_, _≤_}
 use native.Mathlib.Omega.{arith}
-use lib.Dec.{ltb, leb, eqb}
+use lib.Dec.{ltb, leb, eqb, eqb·suc-zero}
 use lib.ListN.{length, set}
 use borrow.Author.Tests.{lt-ltb, le-ltb, eqb-true}
 use Rattle.ground.proofs.Tests.{cond-has, either}
@@ -14,7 +14,7 @@ use Rattle.controller.specs.Types.{Panel, Registers, Auto, Off, Write, R
 use Rattle.controller.specs.Effect.{statusOf}
 use Rattle.controller.specs.Access.{Pair, Machine, machine, Step, done, answered, refused, effectOf, dropped, obeyOf, commandOf, writeOf, readOf, tickOf, stepOf, Accessed, replied, accessed, actedOf}
 use Rattle.controller.specs.Run.{went, halted, turnOf}
-use Rattle.controller.specs.Ready.{standing, TurnedAll, turnedAll, turnedOf}
+use Rattle.controller.specs.Ready.{standing, turnedAll, turnedOf, takenOf, AnsweredAll, answeredAll, answeredOf}
 
 -- from s a step that answers and leaves memory, or is refused by a number
 pub data Answering (s : Machine) : Step Machine → Type 0 where
@@ -27,12 +27,12 @@ pub data Acting : Step Machine → Type 0 where
   refuses : {n : ℕ} → Acting (refused (suc n))
 
 module _ (p : Panel) (rom : List ℕ) (s : Machine) where
-  read-answering : (a : Auto) → Answering s (readOf a s)
+  pub read-answering : (a : Auto) → Answering s (readOf a s)
   read-answering Off = answers
   read-answering Write = declines
   read-answering Read = answers
 
-  write-acting : (a : Auto) (b : ℕ) → Acting (writeOf a s b)
+  pub write-acting : (a : Auto) (b : ℕ) → Acting (writeOf a s b)
   write-acting Off b = acts
   write-acting Write b = acts
   write-acting Read b = refuses
@@ -68,38 +68,39 @@ module _ (p : Panel) (rom : List ℕ) (s : Machine) where
 
 -- what the code's turn comes to
 module _ (r : Registers) (m answers₀ : List ℕ) (given : ℕ) {a : Acted} {m′ : List ℕ} where
-  number-of : (o : Step Machine) → replied a m′ ≡ actedOf r m o → a .number ≡ actedOf r m o .acted .number
-  number-of o e = ap (λ (x : Accessed). x .acted .number) e
+  -- an access that acts
+  pub turn-taken : (o : Step Machine) → Acting o → replied a m′ ≡ actedOf r m o → {x : Turned} → x ≡ takenOf a r given
+      → turnedAll x m′ answers₀ ≡ turnedOf (standing r m answers₀ given) (turnOf (standing r m answers₀ given) o)
+  turn-taken (done s) acts e h =
+      ap (λ (x : Turned). turnedAll x m′ answers₀) h ∙ (λ i. turnedAll (takenOf (e i .acted) r given) (e i .memory) answers₀)
+  turn-taken (refused (suc n)) refuses e h =
+      ap (λ (x : Turned). turnedAll x m′ answers₀) h ∙ (λ i. turnedAll (takenOf (e i .acted) r given) (e i .memory) answers₀)
+      ∙ ap
+      (λ (t : Bool). turnedAll (cond t (record { number = 0; registers = r; given = given }) (record { number = suc n; registers = r; given = given })) m answers₀)
+      (eqb·suc-zero n)
 
-  pub turn-refused : (o : Step Machine) → replied a m′ ≡ actedOf r m o → (a .number ≡ 0 → ⊥)
-      → {x : Turned} → x ≡ record { number = a .number; registers = r; given = given } → turnedAll x m′ answers₀ ≡ turnedOf (standing r m answers₀ given) (turnOf (standing r m answers₀ given) o)
-  turn-refused (done s) e h k = absurd (h (number-of (done s) e))
-  turn-refused (answered s b) e h k = absurd (h (number-of (answered s b) e))
-  turn-refused (refused n) e h k =
-      ap (λ (x : Turned). turnedAll x m′ answers₀) k
-      ∙ (λ i. turnedAll (record { number = e i .acted .number; registers = r; given = given }) (e i .memory) answers₀)
-
-  pub turn-acted : (o : Step Machine) → Acting o → replied a m′ ≡ actedOf r m o → a .number ≡ 0
-      → turnedAll (record { number = 0; registers = a .registers; given = given }) m′ answers₀ ≡ turnedOf (standing r m answers₀ given) (turnOf (standing r m answers₀ given) o)
-  turn-acted (done s) acts e h = λ i. turnedAll (record { number = 0; registers = e i .acted .registers; given = given }) (e i .memory) answers₀
-  turn-acted (refused (suc n)) refuses e h = let z : 0 ≡ suc n = sym h ∙ number-of (refused (suc n)) e in absurd (let y : ⊥ = omega arith in y)
-
-  pub turn-answered : (o : Step Machine) → Answering (machine r m) o → replied a m′ ≡ actedOf r m o → a .number ≡ 0 → given < length answers₀
-      → turnedAll (record { number = 0; registers = a .registers; given = given + 1 }) m′ (set answers₀ given (a .answer))
-      ≡ turnedOf (standing r m answers₀ given) (turnOf (standing r m answers₀ given) o)
-  turn-answered (answered s b) answers e h l =
-      (λ i. turnedAll (record { number = 0; registers = e i .acted .registers; given = given + 1 }) (e i .memory) (set answers₀ given (e i .acted .answer)))
-      ∙ sym
-      (ap (λ (t : Bool). turnedOf (standing r m answers₀ given) (cond t (went (record { machine = s; answers = set answers₀ given b; given = given + 1 })) (halted 13)))
-      (lt-ltb given (length answers₀) l))
-  turn-answered (refused (suc n)) declines e h l = let z : 0 ≡ suc n = sym h ∙ number-of (refused (suc n)) e in absurd (let y : ⊥ = omega arith in y)
-
-  pub turn-full : (o : Step Machine) → Answering (machine r m) o → replied a m′ ≡ actedOf r m o → a .number ≡ 0 → length answers₀ ≤ given
-      → {x : Turned} → x ≡ record { number = 13; registers = r; given = given } → turnedAll x m′ answers₀ ≡ turnedOf (standing r m answers₀ given) (turnOf (standing r m answers₀ given) o)
-  turn-full (answered s b) answers e h l k =
-      ap (λ (x : Turned). turnedAll x m′ answers₀) k
-      ∙ (λ i. turnedAll (record { number = 13; registers = r; given = given }) (e i .memory) answers₀)
-      ∙ sym
-      (ap (λ (t : Bool). turnedOf (standing r m answers₀ given) (cond t (went (record { machine = s; answers = set answers₀ given b; given = given + 1 })) (halted 13)))
-      (le-ltb given (length answers₀) l))
-  turn-full (refused (suc n)) declines e h l k = let z : 0 ≡ suc n = sym h ∙ number-of (refused (suc n)) e in absurd (let y : ⊥ = omega arith in y)
+  -- a read
+  pub turn-answered : (o : Step Machine) → Answering (machine r m) o → replied a m′ ≡ actedOf r m o → {x : Turned} {b : List ℕ}
+      → answeredAll x b ≡ answeredOf a r answers₀ given
+      → turnedAll x m′ b ≡ turnedOf (standing r m answers₀ given) (turnOf (standing r m answers₀ given) o)
+  turn-answered (answered s b) answers e h =
+      (λ i. turnedAll (h i .turned) m′ (h i .answers))
+      ∙ (λ i. turnedAll (answeredOf (e i .acted) r answers₀ given .turned) (e i .memory) (answeredOf (e i .acted) r answers₀ given .answers))
+      ∙ go (ltb given (length answers₀))
+    where
+      go : (t : Bool)
+          → turnedAll (cond t (answeredAll (record { number = 0; registers = s .registers; given = given + 1 }) (set answers₀ given b)) (answeredAll (record { number = 13; registers = r; given = given }) answers₀) .turned) m
+          (cond t (answeredAll (record { number = 0; registers = s .registers; given = given + 1 }) (set answers₀ given b)) (answeredAll (record { number = 13; registers = r; given = given }) answers₀) .answers)
+          ≡ turnedOf (standing r m answers₀ given) (cond t (went (record { machine = s; answers = set answers₀ given b; given = given + 1 })) (halted 13))
+      go true = refl
+      go false = refl
+  turn-answered (refused (suc n)) declines e h =
+      (λ i. turnedAll (h i .turned) m′ (h i .answers))
+      ∙ (λ i. turnedAll (answeredOf (e i .acted) r answers₀ given .turned) (e i .memory) (answeredOf (e i .acted) r answers₀ given .answers))
+      ∙ ap
+      (λ (t : Bool). turnedAll (cond t (go (ltb given (length answers₀))) (answeredAll (record { number = suc n; registers = r; given = given }) answers₀) .turned) m
+      (cond t (go (ltb given (length answers₀))) (answeredAll (record { number = suc n; registers = r; given = given }) answers₀) .answers))
+      (eqb·suc-zero n)
+    where
+      go : Bool → AnsweredAll
+      go u = cond u (answeredAll (record { number = 0; registers = r; given = given + 1 }) (set answers₀ given 0)) (answeredAll (record { number = 13; registers = r; given = given }) answers₀)

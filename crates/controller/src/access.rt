@@ -5,7 +5,7 @@ ghost use lib.ListN.{length};
 ghost use Rattle.display.specs.State.{none};
 ghost use Rattle.codes.specs.Command.{decodeOf};
 ghost use Rattle.controller.specs.Access.{machine, effectOf, dropped, obeyOf, commandOf, writeOf, readOf, stepOf, replied, actedOf, accessOf};
-ghost use Rattle.controller.specs.Effect.{withDisplay, withBus, withPhase, withPending};
+ghost use Rattle.controller.specs.Effect.{withDisplay, withBus, withPhase, withPending, statusOf};
 ghost use Rattle.controller.specs.Ready.{Ready};
 use crate::copy::copy;
 use crate::effect::moved;
@@ -171,7 +171,7 @@ pub(crate) fn command(
     obey(panel, registers, mem, rom, command)
 }
 
-fn data_write(auto: Auto, registers: Registers, mem: &mut [u8], byte: u8) -> Acted
+pub(crate) fn data_write(auto: Auto, registers: Registers, mem: &mut [u8], byte: u8) -> Acted
     requires { ⌜ length (now mem) ≡ 65536 ⌝ }
     ensures { λ r. ⌜ replied r (now (mem .exit)) ≡ actedOf registers (now (mem .entry)) (writeOf auto (machine registers (now (mem .entry))) byte) ⌝ }
 {
@@ -207,7 +207,7 @@ fn data_write(auto: Auto, registers: Registers, mem: &mut [u8], byte: u8) -> Act
     }
 }
 
-fn data_read(auto: Auto, registers: Registers, mem: &[u8]) -> Acted
+pub(crate) fn data_read(auto: Auto, registers: Registers, mem: &[u8]) -> Acted
     requires { ⌜ length (now mem) ≡ 65536 ⌝ }
     ensures { λ r. ⌜ replied r (now (mem .entry)) ≡ actedOf registers (now (mem .entry)) (readOf auto (machine registers (now (mem .entry)))) ⌝ }
 {
@@ -237,7 +237,7 @@ fn data_read(auto: Auto, registers: Registers, mem: &[u8]) -> Acted
     }
 }
 
-fn tick(registers: Registers) -> Registers
+pub(crate) fn tick(registers: Registers) -> Registers
     ensures { λ r. ⌜ r ≡ withDisplay registers (withPhase (registers .display) (not (registers .display .phase))) ⌝ }
 {
     let mut next = registers;
@@ -247,15 +247,19 @@ fn tick(registers: Registers) -> Registers
     next
 }
 
+pub(crate) fn read_status(registers: Registers) -> Acted
+    ensures { λ r. ⌜ r ≡ record { number = 0; place = 0; registers = registers; answer = statusOf registers } ⌝ }
+{
+    Acted {
+        number: 0,
+        place: 0,
+        registers,
+        answer: status(registers),
+    }
+}
+
 // One pair on a machine that is known to be valid.
-pub(crate) fn step(
-    panel: Panel,
-    registers: Registers,
-    mem: &mut [u8],
-    rom: &[u8],
-    kind: u8,
-    byte: u8,
-) -> Acted
+fn step(panel: Panel, registers: Registers, mem: &mut [u8], rom: &[u8], kind: u8, byte: u8) -> Acted
     requires { ⌜ Ready panel (registers .display) (now mem) (now rom) ⌝ }
     ensures { λ r. ⌜ replied r (now (mem .exit)) ≡ actedOf registers (now (mem .entry)) (stepOf panel (now (rom .entry)) (machine registers (now (mem .entry))) (record { kind = kind; byte = byte })) ⌝ }
 {
@@ -265,12 +269,7 @@ pub(crate) fn step(
         0 => data_write(auto, registers, mem, byte),
         1 => command(panel, registers, mem, rom, byte),
         2 => data_read(auto, registers, mem),
-        3 => Acted {
-            number: 0,
-            place: 0,
-            registers,
-            answer: status(registers),
-        },
+        3 => read_status(registers),
         4 => Acted {
             number: 0,
             place: 0,

@@ -1,13 +1,16 @@
 // The run of a log.
 ghost use mathlib.Core.Path.{_≡_};
-ghost use mathlib.Core.List.{List};
-ghost use Prim.Native.Nat.{ℕ, _*_, _≤_};
+ghost use Prim.Native.Nat.{_*_, _≤_};
 ghost use lib.ListN.{length, take};
 ghost use Rattle.controller.specs.Access.{machine, stepOf};
 ghost use Rattle.controller.specs.Run.{turnOf, runFrom, ranOf, ranAll, runOf, pairsOf};
-ghost use Rattle.controller.specs.Ready.{Runs, standing, turnedAll, turnedOf};
+ghost use Rattle.controller.specs.Ready.{Runs, standing, turnedAll, turnedOf, takenOf, answeredAll, answeredOf};
+use crate::access::Acted;
 use crate::access::command;
-use crate::access::step;
+use crate::access::data_read;
+use crate::access::data_write;
+use crate::access::read_status;
+use crate::access::tick;
 use display::panel::Panel;
 use display::registers::Registers;
 use ground::bytes::lesser;
@@ -39,32 +42,43 @@ fn halted(number: u8, registers: Registers, given: usize) -> Turned
     }
 }
 
-// A command, which never answers. It is apart from the other kinds so that they make a small loop.
-fn obeyed(
-    panel: Panel,
-    registers: Registers,
-    mem: &mut [u8],
-    rom: &[u8],
-    given: usize,
-    code: u8,
-) -> Turned
-    requires { ⌜ Runs panel registers (now mem) (now rom) ⌝ }
-    ensures { λ r. ⌜ ((answers : List ℕ) → turnedAll r (now (mem .exit)) answers ≡ turnedOf (standing registers (now (mem .entry)) answers given) (turnOf (standing registers (now (mem .entry)) answers given) (stepOf panel (now (rom .entry)) (machine registers (now (mem .entry))) (record { kind = 1; byte = code })))) ⌝ }
+// What an access that never answers comes to: taken, or all as it was.
+fn taken(acted: Acted, registers: Registers, given: usize) -> Turned
+    ensures { λ r. ⌜ r ≡ takenOf acted registers given ⌝ }
 {
-    let acted = command(panel, registers, mem, rom, code);
     let number = acted.number;
-    if number != 0 {
-        return halted(number, registers, given);
+    if number == 0 {
+        let after = acted.registers;
+        return Turned {
+            number: 0,
+            registers: after,
+            given,
+        };
     }
-    let after = acted.registers;
-    Turned {
-        number: 0,
-        registers: after,
-        given,
-    }
+    halted(number, registers, given)
 }
 
-// One pair, and its answer where it is a read. A refused pair changes nothing, nor does a read without room.
+// What a read comes to: its answer in the buffer, or all as it was; 13 where there is no room.
+fn answered(acted: Acted, registers: Registers, answers: &mut [u8], given: usize) -> Turned
+    ensures { λ r. ⌜ answeredAll r (now (answers .exit)) ≡ answeredOf acted registers (now (answers .entry)) given ⌝ }
+{
+    let number = acted.number;
+    if number == 0 {
+        let after = acted.registers;
+        if given < answers.len() {
+            answers[given] = acted.answer;
+            return Turned {
+                number: 0,
+                registers: after,
+                given: given + 1,
+            };
+        }
+        return halted(13, registers, given);
+    }
+    halted(number, registers, given)
+}
+
+// One pair. The kinds stand apart, and a command is a call of its own, so that data and reads make a small loop.
 fn turn(
     panel: Panel,
     registers: Registers,
@@ -78,30 +92,31 @@ fn turn(
     requires { ⌜ Runs panel registers (now mem) (now rom) ⌝ }
     ensures { λ r. ⌜ turnedAll r (now (mem .exit)) (now (answers .exit)) ≡ turnedOf (standing registers (now (mem .entry)) (now (answers .entry)) given) (turnOf (standing registers (now (mem .entry)) (now (answers .entry)) given) (stepOf panel (now (rom .entry)) (machine registers (now (mem .entry))) (record { kind = kind; byte = byte }))) ⌝ }
 {
-    if kind == 1 {
-        return obeyed(panel, registers, mem, rom, given, byte);
-    }
-    let acted = step(panel, registers, mem, rom, kind, byte);
-    let number = acted.number;
-    if number != 0 {
-        return halted(number, registers, given);
-    }
-    let after = acted.registers;
-    if (kind == 2) | (kind == 3) {
-        if given < answers.len() {
-            answers[given] = acted.answer;
-            return Turned {
-                number: 0,
-                registers: after,
-                given: given + 1,
-            };
+    let bus = registers.bus;
+    let auto = bus.auto;
+    match kind {
+        0 => {
+            let acted = data_write(auto, registers, mem, byte);
+            taken(acted, registers, given)
         }
-        return halted(13, registers, given);
-    }
-    Turned {
-        number: 0,
-        registers: after,
-        given,
+        1 => {
+            let acted = command(panel, registers, mem, rom, byte);
+            taken(acted, registers, given)
+        }
+        2 => {
+            let acted = data_read(auto, registers, mem);
+            answered(acted, registers, answers, given)
+        }
+        3 => {
+            let acted = read_status(registers);
+            answered(acted, registers, answers, given)
+        }
+        4 => Turned {
+            number: 0,
+            registers: tick(registers),
+            given,
+        },
+        _ => halted(3, registers, given),
     }
 }
 

@@ -13,8 +13,8 @@ command-requires c κs = search needs
 data-read-requires : tie.Need-data-read-requires
 data-read-requires c κs = search needs
 
-status-requires : tie.Need-status-requires
-status-requires c κs = search needs
+read-status-requires : tie.Need-read-status-requires
+read-status-requires c κs = search needs
 
 tick-requires : tie.Need-tick-requires
 tick-requires c κs = search needs
@@ -41,7 +41,7 @@ returns-3 : tie.Need-returns-3
 returns-3 c = rw (c .before .before .match .keys3) (c .data-read .ensures)
 
 returns-4 : tie.Need-returns-4
-returns-4 c = rw (c .before .match .keys4, c .status .ensures)
+returns-4 c = rw (c .before .match .keys4, c .read-status .ensures)
 
 returns-5 : tie.Need-returns-5
 returns-5 c = rw (c .before .match .keys5, c .tick .ensures)
@@ -56,7 +56,7 @@ step-spec =
     data-write-requires
     command-requires
     data-read-requires
-    status-requires
+    read-status-requires
     tick-requires
     refused-requires
     same-length
