@@ -12,8 +12,8 @@ use Rattle.ground.specs.Bytes.{wordOf}
 use Rattle.codes.specs.Command.{neededOf, isOff, endsAuto, decodeOf}
 use Rattle.display.specs.State.{validPanel, validRegisters}
 use Rattle.display.specs.Frame.{lentLengths, frameFits, Painted, paintOf}
-use Rattle.controller.specs.Types.{Auto, Off, Write, Read, Command, Decoded, Defined, Undefined}
-use Rattle.controller.specs.Access.{Pair, Machine, machine, Step, done, answered, refused, obeyOf, commandOf, writeOf, readOf, stepOf, Accessed, actedOf, accessOf}
+use Rattle.controller.specs.Types.{Auto, Off, Write, Read, Decoded, Defined, Undefined}
+use Rattle.controller.specs.Access.{Pair, Machine, machine, Step, done, answered, refused, commandOf, writeOf, readOf, stepOf, Accessed, actedOf, accessOf}
 use Rattle.controller.specs.Run.{pairsOf, Standing, Turn, went, halted, turnOf, short, afterTurn, runFrom, endNumber, RanAll, runOf}
 use Rattle.boundary.specs.Types.{Panel, Registers, Entry, State, Refused}
 use Rattle.boundary.specs.Image.{bytesOf}

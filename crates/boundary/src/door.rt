@@ -1,7 +1,7 @@
 // What each export does before the controller is asked, and after.
 ghost use mathlib.Core.Path.{_≡_};
 ghost use lib.ListN.{length};
-ghost use Rattle.boundary.specs.Door.{entryOf, keptOf, countsOf};
+ghost use Rattle.boundary.specs.Door.{entryOf, closes, keptOf, countsOf};
 use super::image::decode;
 use super::image::encode;
 use super::image::is_readable;
@@ -35,13 +35,19 @@ pub(crate) fn enter(panel: Panel, lent: bool, bytes: &[u8]) -> Entry
     }
 }
 
+// Whether a number leaves every buffer as it was.
+fn untouched(number: u8) -> bool
+    ensures { λ r. ⌜ r ≡ closes number ⌝ }
+{
+    (number == 1) | (number == 2)
+}
+
 // The registers written back, unless nothing was touched.
 pub(crate) fn keep(number: u8, registers: Registers, bytes: &mut [u8])
     requires { ⌜ length (now bytes) ≡ 25 ⌝ }
     ensures { λ _. ⌜ now (bytes .exit) ≡ keptOf number registers (now (bytes .entry)) ⌝ }
 {
-    let closed = (number == 1) | (number == 2);
-    if closed {
+    if untouched(number) {
         return;
     }
     encode(registers, bytes);
@@ -52,8 +58,7 @@ pub(crate) fn count(number: u8, place: usize, taken: usize, answers: usize, coun
     requires { ⌜ length (now counts) ≡ 3 ⌝ }
     ensures { λ _. ⌜ now (counts .exit) ≡ countsOf number place taken answers (now (counts .entry)) ⌝ }
 {
-    let closed = (number == 1) | (number == 2);
-    if closed {
+    if untouched(number) {
         return;
     }
     counts[0] = place;

@@ -1,13 +1,17 @@
 -- `count` meets its contract: three stores, or none.
+use mathlib.Core.Path.{sym, _∙_}
 use Rattle.boundary.proofs.Doors.{counts-closed, counts-open}
 use borrow.Author.Needs.{needs}
 use Rattle.boundary.proofs.door.count.Statement.{statement}
 use Rattle.boundary.proofs.door.count.Tie as tie
 
+untouched-requires : tie.Need-untouched-requires
+untouched-requires c κs = search needs
+
 returns : tie.Need-returns
 returns c =
-    let s = c .before .args in
-    counts-closed (s .number) (s .place) (s .taken) (s .answers) (s .counts .now) (c .if1 .taken)
+    let s = c .before .before .before .args in
+    counts-closed (s .number) (s .place) (s .taken) (s .answers) (s .counts .now) (sym (c .before .untouched .ensures) ∙ c .if1 .taken)
 
 slice-write-counts : tie.Need-slice-write-counts
 slice-write-counts c = search needs
@@ -23,13 +27,14 @@ same-length c = search needs
 
 returns-2 : tie.Need-returns-2
 returns-2 c =
-    let s = c .before .args in
-    counts-open (s .number) (s .place) (s .taken) (s .answers) (s .counts .now) (c .if1 .left) (c .before .pre)
+    let s = c .before .before .before .args in
+    counts-open (s .number) (s .place) (s .taken) (s .answers) (s .counts .now) (sym (c .before .untouched .ensures) ∙ c .if1 .left) (c .before .before .before .pre)
 
 pub count-spec : {M : Type 1} → statement M
 count-spec =
     tie.close
     (tie.spec
+    untouched-requires
     returns
     slice-write-counts
     slice-write-counts-2

@@ -1,13 +1,17 @@
 -- `keep` meets its contract: the registers encoded, or nothing.
+use mathlib.Core.Path.{sym, _∙_}
 use Rattle.boundary.proofs.Doors.{kept-closed, kept-open}
 use borrow.Author.Needs.{needs}
 use Rattle.boundary.proofs.door.keep.Statement.{statement}
 use Rattle.boundary.proofs.door.keep.Tie as tie
 
+untouched-requires : tie.Need-untouched-requires
+untouched-requires c κs = search needs
+
 returns : tie.Need-returns
 returns c =
-    let s = c .before .before .args in
-    kept-closed (s .number) (s .registers) (s .bytes .now) (c .if1 .taken)
+    let s = c .before .before .before .args in
+    kept-closed (s .number) (s .registers) (s .bytes .now) (sym (c .before .untouched .ensures) ∙ c .if1 .taken)
 
 encode-requires : tie.Need-encode-requires
 encode-requires c κs = search needs
@@ -17,8 +21,8 @@ same-length c = search needs
 
 returns-2 : tie.Need-returns-2
 returns-2 c =
-    let s = c .before .before .before .before .before .before .args in
-    kept-open (s .number) (s .registers) (s .bytes .now) (c .before .before .before .before .if1 .left) (c .before .before .encode .ensures)
+    let s = c .before .before .before .before .before .before .before .args in
+    kept-open (s .number) (s .registers) (s .bytes .now) (sym (c .before .before .before .before .before .untouched .ensures) ∙ c .before .before .before .before .if1 .left) (c .before .before .encode .ensures)
 
 pub keep-spec : {M : Type 1} → statement M
-keep-spec = tie.close (tie.spec returns encode-requires same-length returns-2)
+keep-spec = tie.close (tie.spec untouched-requires returns encode-requires same-length returns-2)
