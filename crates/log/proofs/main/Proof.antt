@@ -1,0 +1,68 @@
+-- `main` meets its contract: the text stands in its room, so that much of it can be lent.
+use mathlib.Core.Path.{sym}
+use lib.Seq.{length-take-le}
+use Rattle.printed.proofs.Prints.{print-within}
+use borrow.Author.Needs.{needs}
+use Rattle.log.proofs.main.Statement.{statement}
+use Rattle.log.proofs.main.Tie as tie
+
+slice-aggregate-read-full : tie.Need-slice-aggregate-read-full
+slice-aggregate-read-full c = search needs
+
+read-full-requires : tie.Need-read-full-requires
+read-full-requires c κs = search needs
+
+array-share-prefix-input : tie.Need-array-share-prefix-input
+array-share-prefix-input c = search needs
+
+slice-aggregate-print : tie.Need-slice-aggregate-print
+slice-aggregate-print c = search needs
+
+slice-aggregate-print-2 : tie.Need-slice-aggregate-print-2
+slice-aggregate-print-2 c = search needs
+
+slice-aggregate-print-3 : tie.Need-slice-aggregate-print-3
+slice-aggregate-print-3 c = search needs
+
+slice-aggregate-print-4 : tie.Need-slice-aggregate-print-4
+slice-aggregate-print-4 c = search needs
+
+slice-aggregate-print-5 : tie.Need-slice-aggregate-print-5
+slice-aggregate-print-5 c = search needs
+
+slice-aggregate-print-6 : tie.Need-slice-aggregate-print-6
+slice-aggregate-print-6 c = search needs
+
+print-requires : tie.Need-print-requires
+print-requires c κs = search needs
+
+array-share-prefix-out : tie.Need-array-share-prefix-out
+array-share-prefix-out c = print-within _ _ _ _ _ _ (c .before .before .before .before .before .print .ensures)
+
+slice-aggregate-write-all : tie.Need-slice-aggregate-write-all
+slice-aggregate-write-all c = sym (length-take-le _ _ (print-within _ _ _ _ _ _ (c .before .before .before .before .before .before .print .ensures)))
+
+write-all-requires : tie.Need-write-all-requires
+write-all-requires c κs = search needs
+
+returns : tie.Need-returns
+returns c = search needs
+
+pub main-spec : {M : Type 1} → statement M
+main-spec =
+    tie.close
+    (tie.spec
+    slice-aggregate-read-full
+    read-full-requires
+    array-share-prefix-input
+    slice-aggregate-print
+    slice-aggregate-print-2
+    slice-aggregate-print-3
+    slice-aggregate-print-4
+    slice-aggregate-print-5
+    slice-aggregate-print-6
+    print-requires
+    array-share-prefix-out
+    slice-aggregate-write-all
+    write-all-requires
+    returns)

@@ -1,0 +1,212 @@
+-- What the input gives, what a run's text rests on, and the whole text.
+use mathlib.Core.Path.{_≡_, refl, ap, sym, subst, _∙_}
+use mathlib.Core.Bool.{Bool, true, false, cond, _&&_, _||_}
+use mathlib.Core.List.{List, [], _∷_, _++_}
+use Prim.Native.Nat.{ℕ, zero, suc, _+_, _-_, _*_, _/_, _%_, _≤_, _<_, min}
+use native.Mathlib.Nat.{mul-le-mul, le-trans}
+use native.Mathlib.Numerals.{add-one}
+use native.Mathlib.Decide.{decLt}
+use native.Mathlib.Omega.{arith}
+use lib.Dec.{eqb}
+use lib.ListN.{length, take, drop, replicate, length-append, length-drop, length-replicate, drop-of-length-le, replicate-append-replicate}
+use lib.Seq.{take-all, take-nil}
+use borrow.Author.Tests.{eqb-true, eq-eqb, eqb-false}
+use Rattle.ground.specs.Lists.{build, zeros}
+use Rattle.ground.specs.Packing.{rowBytes}
+use Rattle.ground.proofs.Lists.{joined-length}
+use Rattle.ground.proofs.Tests.{both, both-left, both-right, cond-has}
+use Rattle.display.specs.State.{validPanel, validRegisters, resetRegisters}
+use Rattle.display.specs.Frame.{frameOf, lentLengths, frameFits, painted, Painted, paintOf, replyOf}
+use Rattle.display.proofs.Doors.{Panelled, panelled, narrow}
+use Rattle.controller.specs.Types.{Panel, Registers}
+use Rattle.controller.specs.declared.run.Ran.{Ran}
+use Rattle.controller.specs.Access.{stepOf}
+use Rattle.controller.specs.Run.{pairsOf, runFrom, RanAll, ranAll, ranOf, ranNone, runOf}
+use Rattle.controller.specs.Ready.{standing}
+use Rattle.controller.proofs.Laws.{sounds, sounds-valid}
+use Rattle.controller.proofs.Splitting.{Kept, run-kept}
+use Rattle.printed.specs.Put.{Put}
+use Rattle.printed.specs.Printed.{panelIn, logIn, characterRow, characters, ranIn, textOf, logText, firstLine, frameLine, frameLines, lentRooms, Printed, printed, printOf}
+use Rattle.printed.specs.Text.{hexLineAt, hexLines}
+use Rattle.printed.specs.Ready.{Draws, Ready}
+use Rattle.printed.proofs.Puts.{put-same, put-start, dot-line-length}
+
+-- a room filled with 0
+pub built-zeros : (n : ℕ) → build n (λ _. 0) ≡ zeros n
+unfolding build zeros
+built-zeros zero = refl
+built-zeros (suc n) =
+    ap (λ (l : List ℕ). l ++ (0 ∷ [])) (built-zeros n) ∙ replicate-append-replicate n 1 0 ∙ ap (λ (m : ℕ). replicate m 0) (add-one n)
+
+-- the log, cut out between two places of the input
+pub log-is : (l : List ℕ) {s e : ℕ} → s ≡ min 3 (length l) → e ≡ min 16387 (length l) → take (e - s) (drop s l) ≡ logIn l
+log-is l {s} {e} i j = go (decLt (length l) 3) (decLt (length l) 16387)
+  where
+    go : Dec (length l < 3) → Dec (length l < 16387) → take (e - s) (drop s l) ≡ logIn l
+    go (yes h) k =
+        let a : drop s l ≡ [] = drop-of-length-le l {i = s} (omega arith) in
+        let b : drop 3 l ≡ [] = drop-of-length-le l {i = 3} (omega arith) in
+        ap (take (e - s)) a ∙ take-nil (e - s) ∙ sym (ap (take 16384) b)
+    go (no h) (yes k) =
+        let a : s ≡ 3 = omega arith in
+        ap (λ (n : ℕ). take (e - n) (drop n l)) a ∙ take-all (e - 3) (drop 3 l) (rw length-drop (omega arith))
+        ∙ sym (take-all 16384 (drop 3 l) (rw length-drop (omega arith)))
+    go (no h) (no k) =
+        let a : s ≡ 3 = omega arith in
+        let b : e ≡ 16387 = omega arith in
+        λ q. take (b q - a q) (drop (a q) l)
+
+-- the largest row, frame and frame text
+module _ (p : Panel) (q : Panelled p) where
+  pub dots-few : p .columns * p .width ≤ 640
+  dots-few = mul-le-mul {n₂ = 80} {m₂ = 8} (q .columns) (narrow q)
+
+  pub frame-few : 8 * p .lines * rowBytes (p .columns) (p .width) ≤ 10240
+  frame-few = mul-le-mul {n₂ = 128} {m₂ = 80} (omega (arith, q .lines)) (omega (arith, dots-few))
+
+  pub lines-few : 8 * p .lines * (p .columns * p .width + 1) ≤ 82048
+  lines-few = mul-le-mul {n₂ = 128} {m₂ = 641} (omega (arith, q .lines)) (omega (arith, dots-few))
+
+-- past the doors a painting is the frame
+pub drawn : {p : Panel} {r : Registers} {mem rom frame out : List ℕ} {at : ℕ} → Draws p r mem rom frame out at
+    → {x : Painted} → x ≡ paintOf p r mem rom frame → x .frame ≡ frameOf p (r .display) mem rom
+unfolding paintOf
+drawn {p} {r} {mem} {rom} {frame} d h =
+    ap (λ (o : Painted). o .frame) h
+    ∙ (λ k. cond (d .valid k)
+    (cond (both (d .lent) (eq-eqb (length frame) (8 * p .lines * rowBytes (p .columns) (p .width)) (d .sized)) k) (painted (replyOf 0) (frameOf p (r .display) mem rom)) (painted (replyOf 2) frame))
+    (painted (replyOf 1) frame) .frame)
+
+-- what a run from a sound state came to
+pub record Came (p : Panel) (e : RanAll) : Type 0 where
+  pub given : e .ran .answers ≤ length (e .answers)
+  pub valid : eqb (e .ran .number) 1 ≡ false → (validPanel p && validRegisters (e .ran .registers)) ≡ true
+
+module _ (p : Panel) (r : Registers) (mem rom log : List ℕ) (limit : ℕ) (answers : List ℕ) (v : validRegisters r ≡ true) (long : length mem ≡ 65536) where
+  kept : Kept (runFrom (stepOf p rom) 0 (take limit (pairsOf log)) (standing r mem answers 0))
+  kept = run-kept p rom (take limit (pairsOf log)) 0 (standing r mem answers 0) (sounds r mem v long) (omega arith)
+
+  pub run-came : Came p (runOf p r mem rom log limit answers)
+  unfolding runOf
+  run-came = go (validPanel p && validRegisters r) (lentLengths mem rom) (eqb (length log % 2) 0) refl
+    where
+      go : (a b c : Bool) → (validPanel p && validRegisters r) ≡ a
+          → Came p (cond a (cond b (cond c (ranOf (runFrom (stepOf p rom) 0 (take limit (pairsOf log)) (standing r mem answers 0))) (ranNone 8 (length log / 2) r mem answers)) (ranNone 2 0 r mem answers)) (ranNone 1 0 r mem answers))
+      go true true true i =
+          record { given = kept .within; valid = λ _. both (both-left (validPanel p) (validRegisters r) i) (sounds-valid (kept .sound)) }
+      go true true false i = record { given = omega arith; valid = λ _. i }
+      go true false c i = record { given = omega arith; valid = λ _. i }
+      go false b c i = record { given = omega arith; valid = λ h. absurd (eqb-false 1 1 h refl) }
+
+-- a run's text, with and without answers and frame
+module _ (p : Panel) (rom : List ℕ) (e : RanAll) {a b : List ℕ} {w : ℕ} where
+  pub text-short : (eqb (e .ran .number) 1 || eqb (e .ran .number) 8) ≡ true → Put a 0 (firstLine (e .ran)) b w → Put a 0 (textOf p rom e) b w
+  unfolding textOf
+  text-short h x =
+      put-same (λ k. cond (sym h k) (firstLine (e .ran)) (firstLine (e .ran) ++ hexLines (e .ran .answers) (e .answers) ++ frameLines p (frameOf p (e .ran .registers .display) (e .memory) rom))) x
+
+  pub text-long : (eqb (e .ran .number) 1 || eqb (e .ran .number) 8) ≡ false
+      → Put a 0 (firstLine (e .ran) ++ hexLines (e .ran .answers) (e .answers) ++ frameLines p (frameOf p (e .ran .registers .display) (e .memory) rom)) b w
+      → Put a 0 (textOf p rom e) b w
+  unfolding textOf
+  text-long h x =
+      put-same (λ k. cond (sym h k) (firstLine (e .ran)) (firstLine (e .ran) ++ hexLines (e .ran .answers) (e .answers) ++ frameLines p (frameOf p (e .ran .registers .display) (e .memory) rom))) x
+
+-- how long the parts are
+pub hex-lines-length : (given : ℕ) (bytes : List ℕ) → length (hexLines given bytes) ≡ given * 3
+unfolding hexLines
+hex-lines-length given bytes = joined-length given 3 (hexLineAt bytes) (λ i. refl)
+
+pub frame-lines-length : (p : Panel) (frame : List ℕ) → length (frameLines p frame) ≡ 8 * p .lines * (p .columns * p .width + 1)
+unfolding frameLines
+frame-lines-length p frame =
+    joined-length (8 * p .lines) (p .columns * p .width + 1) (frameLine p frame) (λ r. dot-line-length frame (r * rowBytes (p .columns) (p .width)) (p .columns * p .width))
+
+-- the run of the input's log
+pub ran-is : (input : List ℕ) {p : Panel} {r : Registers} {mem rom log answers : List ℕ} {e : RanAll} → p ≡ panelIn input → r ≡ resetRegisters → mem ≡ zeros 65536
+    → rom ≡ characters → log ≡ logIn input → answers ≡ zeros 8192 → e ≡ runOf p r mem rom log (length log / 2) answers → e ≡ ranIn input
+unfolding ranIn
+ran-is input i j m c l a e = e ∙ (λ k. runOf (i k) (j k) (m k) (c k) (l k) (length (l k) / 2) (a k))
+
+pub zeros-length : (n : ℕ) → length (zeros n) ≡ n
+unfolding zeros
+zeros-length n = length-replicate n 0
+
+pub ran-came : (input : List ℕ) → Came (panelIn input) (ranIn input)
+unfolding ranIn
+ran-came input =
+    run-came (panelIn input) resetRegisters (zeros 65536) characters (logIn input) (length (logIn input) / 2) (zeros 8192) refl (zeros-length 65536)
+
+pub characters-are : {rom : List ℕ} {n : ℕ} → rom ≡ build n characterRow → n ≡ 1024 → rom ≡ characters
+unfolding characters
+characters-are h e = h ∙ ap (λ (m : ℕ). build m characterRow) e
+
+-- the door's tests, as facts
+pub record Lent (mem rom answers frame out : List ℕ) : Type 0 where
+  pub memory : length mem ≡ 65536
+  pub characters : length rom ≡ 1024
+  pub answered : length answers ≡ 8192
+  pub framed : length frame ≡ 10240
+  pub roomy : length out ≡ 131072
+
+pub lent : (mem rom answers frame out : List ℕ) → lentRooms mem rom answers frame out ≡ true → Lent mem rom answers frame out
+lent mem rom answers frame out e =
+    let four : (eqb (length mem) 65536 && eqb (length rom) 1024 && eqb (length answers) 8192 && eqb (length frame) 10240) ≡ true = both-left _ (eqb (length out) 131072) e in
+    let three : (eqb (length mem) 65536 && eqb (length rom) 1024 && eqb (length answers) 8192) ≡ true = both-left _ (eqb (length frame) 10240) four in
+    let two : (eqb (length mem) 65536 && eqb (length rom) 1024) ≡ true = both-left _ (eqb (length answers) 8192) three in
+    record {
+      memory = eqb-true (length mem) 65536 (both-left _ (eqb (length rom) 1024) two);
+      characters = eqb-true (length rom) 1024 (both-right (eqb (length mem) 65536) _ two);
+      answered = eqb-true (length answers) 8192 (both-right (eqb (length mem) 65536 && eqb (length rom) 1024) _ three);
+      framed = eqb-true (length frame) 10240 (both-right (eqb (length mem) 65536 && eqb (length rom) 1024 && eqb (length answers) 8192) _ four);
+      roomy = eqb-true (length out) 131072 (both-right (eqb (length mem) 65536 && eqb (length rom) 1024 && eqb (length answers) 8192 && eqb (length frame) 10240) _ e);
+    }
+
+-- the run's text may be written
+pub ready : (input : List ℕ) {p : Panel} {a : Ran} {mem rom answers frame out : List ℕ} → p ≡ panelIn input → ranAll a mem answers ≡ ranIn input
+    → Lent mem rom answers frame out → Ready p a mem rom answers frame out
+ready input {p} {a} {mem} {rom} {answers} i e l =
+    let came : Came p (ranAll a mem answers) = subst (λ (q : Panel). Came q (ranAll a mem answers)) (sym i) (subst (λ (o : RanAll). Came (panelIn input) o) (sym e) (ran-came input)) in
+    record {
+      valid = came .valid;
+      lent = both (eq-eqb (length mem) 65536 (l .memory)) (eq-eqb (length rom) 1024 (l .characters));
+      given = came .given;
+      answered = l .answered;
+      framed = l .framed;
+      roomy = l .roomy;
+    }
+
+module _ (input mem rom answers frame out : List ℕ) where
+  pub print-none : lentRooms mem rom answers frame out ≡ false → printed 0 out ≡ printOf input mem rom answers frame out
+  unfolding printOf
+  print-none h =
+      λ k. cond (sym h k) (printed (length (logText input)) (logText input ++ drop (length (logText input)) out)) (printed 0 out)
+
+  pub print-all : lentRooms mem rom answers frame out ≡ true → {p : Panel} {c : List ℕ} {e : RanAll} → p ≡ panelIn input → c ≡ characters → e ≡ ranIn input
+      → {b : List ℕ} {w : ℕ} → Put out 0 (textOf p c e) b w → w ≤ 131072 → printed w b ≡ printOf input mem rom answers frame out
+  unfolding printOf logText
+  print-all h {p} {c} {e} i j l {b} {w} x s =
+      let t : Put out 0 (textOf (panelIn input) characters (ranIn input)) b w = put-same (λ k. textOf (i k) (j k) (l k)) x in
+      let o = lent mem rom answers frame out h in
+      let n : w ≡ length (textOf (panelIn input) characters (ranIn input)) = omega (arith, t .ends) in
+      (λ k. printed (n k) (put-start t (omega (arith, o .roomy)) k))
+      ∙ (λ k. cond (sym h k) (printed (length (textOf (panelIn input) characters (ranIn input))) (textOf (panelIn input) characters (ranIn input) ++ drop (length (textOf (panelIn input) characters (ranIn input))) out)) (printed 0 out))
+
+  -- the text stands in its room
+  pub print-within : {b : List ℕ} {w : ℕ} → printed w b ≡ printOf input mem rom answers frame out → w ≤ length b
+  unfolding printOf
+  print-within h =
+      subst (λ (o : Printed). o .count ≤ length (o .out)) (sym h)
+      (cond-has (λ (o : Printed). o .count ≤ length (o .out)) (lentRooms mem rom answers frame out) (rw length-append (omega arith)) (omega arith))
+
+-- not refused by 1
+pub not-first : (a b : Bool) → (a || b) ≡ false → a ≡ false
+not-first true b e = e
+not-first false b e = refl
+
+module _ (p : Panel) (a : Ran) {mem rom answers frame out : List ℕ} (k : Ready p a mem rom answers frame out) (h : (eqb (a .number) 1 || eqb (a .number) 8) ≡ false) where
+  pub ready-valid : (validPanel p && validRegisters (a .registers)) ≡ true
+  ready-valid = k .valid (not-first (eqb (a .number) 1) (eqb (a .number) 8) h)
+
+  pub ready-panel : Panelled p
+  ready-panel = panelled p (both-left (validPanel p) (validRegisters (a .registers)) ready-valid)

@@ -1,0 +1,80 @@
+-- 01, Bench points: what the log program prints.
+use Prim.Native.Nat.{ℕ, _+_, _*_, _/_, _%_}
+use mathlib.Core.Bool.{Bool, cond, _&&_, _||_}
+use mathlib.Core.List.{List, [], _++_}
+use lib.Dec.{eqb}
+use lib.ListN.{length, getD, take, drop}
+use Rattle.ground.specs.Lists.{build, joined, zeros}
+use Rattle.ground.specs.Packing.{rowBytes}
+use Rattle.display.specs.State.{resetRegisters}
+use Rattle.display.specs.Frame.{frameOf}
+use Rattle.controller.specs.Types.{Panel}
+use Rattle.controller.specs.declared.run.Ran.{Ran}
+use Rattle.controller.specs.Run.{RanAll, runOf}
+use Rattle.printed.specs.Text.{ascii, newline, decimal, hexLines, dotLine}
+
+-- C, L, w; a missing panel byte counts as 0
+abbrev pub panelIn : List ℕ → Panel
+panelIn input = record { columns = getD input 0 0; lines = getD input 1 0; width = getD input 2 0 }
+
+-- then at most 16,384 log bytes; bytes past the limit are not used
+abbrev pub logIn : List ℕ → List ℕ
+logIn input = take 16384 (drop 3 input)
+
+-- row v of code k is (k+v) mod 256
+abbrev pub characterRow : ℕ → ℕ
+characterRow i = (i / 8 + i % 8) % 256
+
+unfoldable pub characters : List ℕ
+characters = build 1024 characterRow
+
+-- the log's whole pairs, from reset on zero memory; an answer buffer that always has room
+unfoldable pub ranIn : List ℕ → RanAll
+ranIn input =
+    runOf (panelIn input) resetRegisters (zeros 65536) characters (logIn input) (length (logIn input) / 2) (zeros 8192)
+
+-- pairs taken, answers, refusal, place
+unfoldable pub firstLine : Ran → List ℕ
+firstLine a =
+    ascii "pairs " ++ decimal (a .taken) ++ (ascii " answers " ++ decimal (a .answers))
+    ++ (ascii " refusal " ++ decimal (a .number))
+    ++ (ascii " place " ++ decimal (a .place))
+    ++ newline
+
+-- row r of a frame as C·w dots
+abbrev pub frameLine : Panel → List ℕ → ℕ → List ℕ
+frameLine p frame r = dotLine frame (r * rowBytes (p .columns) (p .width)) (p .columns * p .width)
+
+unfoldable pub frameLines : Panel → List ℕ → List ℕ
+frameLines p frame = joined (8 * p .lines) (frameLine p frame)
+
+-- refusals 1 and 8 print the first line only; else answers and frame follow
+unfoldable pub textOf : Panel → List ℕ → RanAll → List ℕ
+textOf p rom e =
+    cond (eqb (e .ran .number) 1 || eqb (e .ran .number) 8) (firstLine (e .ran))
+    (firstLine (e .ran) ++ hexLines (e .ran .answers) (e .answers)
+    ++ frameLines p (frameOf p (e .ran .registers .display) (e .memory) rom))
+
+unfoldable pub logText : List ℕ → List ℕ
+logText input = textOf (panelIn input) characters (ranIn input)
+
+-- lent: 65,536 bytes of memory, 1,024 of ROM, 8,192 of answers, the largest frame's 10,240, 131,072 of text, which suffice
+abbrev pub lentRooms : List ℕ → List ℕ → List ℕ → List ℕ → List ℕ → Bool
+lentRooms mem rom answers frame out =
+    eqb (length mem) 65536 && eqb (length rom) 1024 && eqb (length answers) 8192 && eqb (length frame) 10240
+    && eqb (length out) 131072
+
+-- the bytes of text, and the lent room for it
+pub record Printed : Type 0 where
+  pub count : ℕ
+  pub out : List ℕ
+
+abbrev pub printed : ℕ → List ℕ → Printed
+printed count out = record { count = count; out = out }
+
+-- the room's start is the text, its rest as it was; with a lent length wrong nothing is printed
+unfoldable pub printOf : List ℕ → List ℕ → List ℕ → List ℕ → List ℕ → List ℕ → Printed
+printOf input mem rom answers frame out =
+    cond (lentRooms mem rom answers frame out)
+    (printed (length (logText input)) (logText input ++ drop (length (logText input)) out))
+    (printed 0 out)

@@ -1,0 +1,112 @@
+// What the log program prints, as bytes in a lent room.
+ghost use mathlib.Core.Path.{_≡_};
+ghost use Prim.Native.Nat.{_+_, _*_, _≤_};
+ghost use lib.ListN.{length};
+ghost use Rattle.ground.specs.Packing.{rowBytes};
+ghost use Rattle.display.specs.Frame.{frameOf};
+ghost use Rattle.controller.specs.Run.{ranAll};
+ghost use Rattle.printed.specs.Put.{Put};
+ghost use Rattle.printed.specs.Printed.{characters, ranIn, frameLines, textOf, printed, printOf};
+ghost use Rattle.printed.specs.Ready.{Draws, Ready};
+use crate::fill::fill_characters;
+use crate::fill::fill_zeros;
+use crate::input::log_in;
+use crate::input::panel_in;
+use crate::put::put_first_line;
+use crate::put::put_frame_lines;
+use crate::put::put_hex_lines;
+use controller::run::Ran;
+use controller::run::run;
+use display::frame::paint;
+use display::panel::Panel;
+use display::registers::Registers;
+
+// The frame, painted and then as text.
+fn put_frame(
+    panel: Panel,
+    registers: Registers,
+    memory: &[u8],
+    rom: &[u8],
+    frame: &mut [u8],
+    out: &mut [u8],
+    at: usize,
+) -> usize
+    requires { ⌜ Draws panel registers (now memory) (now rom) (now frame) (now out) at ⌝ }
+    ensures { λ r. ⌜ Put (now (out .entry)) at (frameLines panel (frameOf panel (registers .display) (now (memory .entry)) (now (rom .entry)))) (now (out .exit)) r ⌝ }
+{
+    paint(panel, registers, memory, rom, frame);
+    put_frame_lines(out, at, panel, frame)
+}
+
+// 8·L·R, the bytes of a frame.
+fn frame_size(panel: Panel) -> usize
+    requires { ⌜ (panel .lines ≤ 16) × (panel .columns * panel .width ≤ 640) ⌝ }
+    ensures { λ r. ⌜ r ≡ 8 * panel .lines * rowBytes (panel .columns) (panel .width) ⌝ }
+{
+    8 * panel.lines * ((panel.columns * panel.width + 7) / 8)
+}
+
+// What a run came to; on refusals 1 and 8 the first line only.
+fn put_ran(
+    panel: Panel,
+    ran: Ran,
+    memory: &[u8],
+    rom: &[u8],
+    answers: &[u8],
+    frame: &mut [u8],
+    out: &mut [u8],
+) -> usize
+    requires { ⌜ Ready panel ran (now memory) (now rom) (now answers) (now frame) (now out) ⌝ }
+    ensures { λ r. ⌜ Put (now (out .entry)) 0 (textOf panel (now (rom .entry)) (ranAll ran (now (memory .entry)) (now (answers .entry)))) (now (out .exit)) r ⌝ }
+    ensures { λ r. ⌜ r ≤ 131072 ⌝ }
+{
+    let at = put_first_line(out, ran);
+    if (ran.number == 1) | (ran.number == 8) {
+        return at;
+    }
+    let next = put_hex_lines(out, at, ran.answers, answers);
+    let registers = ran.registers;
+    let size = frame_size(panel);
+    put_frame(panel, registers, memory, rom, &mut frame[..size], out, next)
+}
+
+// The run of the input's log, from reset on fresh rooms.
+fn run_log(input: &[u8], memory: &mut [u8], rom: &mut [u8], answers: &mut [u8]) -> Ran
+    requires { ⌜ (length (now memory) ≡ 65536) × (length (now rom) ≡ 1024) × (length (now answers) ≡ 8192) ⌝ }
+    ensures { λ r. ⌜ ranAll r (now (memory .exit)) (now (answers .exit)) ≡ ranIn (now (input .entry)) ⌝ }
+    ensures { λ _. ⌜ now (rom .exit) ≡ characters ⌝ }
+{
+    fill_zeros(memory);
+    fill_characters(rom);
+    fill_zeros(answers);
+    let panel = panel_in(input);
+    let log = log_in(input);
+    let registers = Registers::reset();
+    run(panel, registers, memory, rom, log, log.len() / 2, answers)
+}
+
+// The whole text at the start of `out`, and its length; 0 where a lent length is wrong. The other rooms are to work in: what they hold
+// afterwards is not promised.
+pub fn print(
+    input: &[u8],
+    memory: &mut [u8],
+    rom: &mut [u8],
+    answers: &mut [u8],
+    frame: &mut [u8],
+    out: &mut [u8],
+) -> usize
+    ensures { λ r. ⌜ printed r (now (out .exit)) ≡ printOf (now (input .entry)) (now (memory .entry)) (now (rom .entry)) (now (answers .entry)) (now (frame .entry)) (now (out .entry)) ⌝ }
+{
+    let fits = (memory.len() == 65536)
+        & (rom.len() == 1024)
+        & (answers.len() == 8192)
+        & (frame.len() == 10240)
+        & (out.len() == 131072);
+    if fits {
+        let ran = run_log(input, memory, rom, answers);
+        let panel = panel_in(input);
+        put_ran(panel, ran, memory, rom, answers, frame, out)
+    } else {
+        0
+    }
+}
