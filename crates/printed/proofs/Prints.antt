@@ -14,7 +14,7 @@ use borrow.Author.Tests.{eqb-true, eq-eqb, eqb-false}
 use Rattle.ground.specs.Lists.{build, zeros}
 use Rattle.ground.specs.Packing.{rowBytes}
 use Rattle.ground.proofs.Lists.{joined-length}
-use Rattle.ground.proofs.Tests.{both, both-left, both-right, cond-has}
+use Rattle.ground.proofs.Tests.{both, both-left, both-right, cond-has, settled}
 use Rattle.display.specs.State.{validPanel, validRegisters, resetRegisters}
 use Rattle.display.specs.Frame.{frameOf, lentLengths, frameFits, painted, Painted, paintOf, replyOf}
 use Rattle.display.proofs.Doors.{Panelled, panelled, narrow}
@@ -210,3 +210,10 @@ module _ (p : Panel) (a : Ran) {mem rom answers frame out : List ℕ} (k : Ready
 
   pub ready-panel : Panelled p
   ready-panel = panelled p (both-left (validPanel p) (validRegisters (a .registers)) ready-valid)
+
+-- two replies that meet the promise are equal
+pub print-settled : {n k : ℕ} {b c : List ℕ} (input mem rom answers frame out : List ℕ)
+    → printed n b ≡ printOf input mem rom answers frame out → printed k c ≡ printOf input mem rom answers frame out → (n ≡ k) × (b ≡ c)
+print-settled input mem rom answers frame out h k =
+    let e = settled h k in
+    (ap (λ (x : Printed). x .count) e, ap (λ (x : Printed). x .out) e)
