@@ -1,30 +1,23 @@
 -- The starred bench points hold.
-use mathlib.Core.Path.{_≡_, refl, ap, sym, _∙_}
-use mathlib.Core.Bool.{Bool, true, false, not, cond, _&&_, _||_}
-use mathlib.Core.List.{List, [], _∷_}
-use Prim.Native.Nat.{ℕ, zero, suc, _+_, _*_, _%_, _^_, _≤_, _<_}
+use mathlib.Core.Path.{_≡_, refl, ap, _∙_}
+use mathlib.Core.Bool.{Bool, true, false, not, _&&_}
+use mathlib.Core.List.{List}
+use Prim.Native.Nat.{ℕ, _≤_, _<_}
 use native.Mathlib.Omega.{arith}
-use native.Mathlib.Nat.{mod-eq-of-lt}
-use lib.Dec.{leb, leb·zero}
+use lib.Dec.{leb·zero}
 use lib.Bits.{bitOr, bitAnd}
 use lib.ListN.{length, getD, set, length-set}
 use lib.Seq.{getD-set-same}
-use Rattle.display.specs.declared.panel.Panel.{Panel}
-use Rattle.display.specs.declared.registers.Display.{Display}
-use Rattle.display.specs.declared.registers.Auto.{Auto}
-use Rattle.display.specs.declared.registers.Auto.the-variants.{Off, Write, Read}
-use Rattle.display.specs.declared.registers.Pending.{Pending}
-use Rattle.display.specs.Displayed.{addressOf, glyphRow, attributed, lookOf, displayedByte}
-use Rattle.controller.specs.declared.position.Position.{Position}
+use Rattle.display.specs.Displayed.{glyphRow, attributed, lookOf}
 use Rattle.controller.specs.declared.position.Position.the-variants.{At, Nowhere}
 use Rattle.controller.specs.Effect.{pushed}
 use Rattle.controller.specs.Position.{positionOf}
-use Rattle.controller.specs.Run.{whole, runFrom}
+use Rattle.controller.specs.Run.{runFrom}
 use Rattle.controller.proofs.Positions.{position-at, position-none}
 use Rattle.controller.proofs.Pushes.{pushed-one, pushed-two}
 use Rattle.ground.specs.Lists.{zeros}
-use Rattle.writer.specs.Stream.{datum, code, pointTo, block, setUp, opening}
-use Rattle.writer.specs.BenchPoints.{BenchPoints, registersAt, withGraphicAt, ran, Leaves, Peeks}
+use Rattle.writer.specs.Stream.{pointTo, block, setUp, opening}
+use Rattle.writer.specs.BenchPoints.{BenchPoints}
 
 never-both : (b : Bool) → (b && false) ≡ false
 never-both true = refl

@@ -10,15 +10,14 @@ use Rattle.display.specs.declared.registers.Combination.the-variants.{And}
 use Rattle.display.specs.declared.registers.Auto.{Auto}
 use Rattle.display.specs.declared.registers.Auto.the-variants.{Off, Write, Read}
 use Rattle.display.specs.declared.registers.Pending.{Pending}
-use Rattle.display.specs.declared.registers.Bus.{Bus}
 use Rattle.display.specs.declared.registers.Registers.{Registers}
 use Rattle.display.specs.State.{none, resetRegisters}
 use Rattle.display.specs.Displayed.{glyphRow, attributed, displayedByte}
 use Rattle.controller.specs.declared.position.Position.the-variants.{At}
 use Rattle.controller.specs.Effect.{statusOf}
 use Rattle.controller.specs.Position.{positionOf}
-use Rattle.controller.specs.Access.{Pair, Machine, machine, Step, refused, stepOf}
-use Rattle.controller.specs.Run.{Run, End, whole, short, runFrom}
+use Rattle.controller.specs.Access.{Pair, Machine, machine, refused, stepOf}
+use Rattle.controller.specs.Run.{Run, whole, short, runFrom}
 use Rattle.writer.specs.Stream.{datum, code, opening}
 
 -- registers of any display group

@@ -1,3 +1,4 @@
 pub mod Stream
 pub mod Written
+pub mod Put
 pub mod BenchPoints

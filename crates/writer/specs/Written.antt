@@ -1,6 +1,6 @@
 -- 01, Screens, and Numbers returned: what writing a screen answers.
 use Prim.Native.Nat.{ℕ, _*_}
-use mathlib.Core.Bool.{Bool, cond}
+use mathlib.Core.Bool.{cond}
 use mathlib.Core.List.{List}
 use lib.Dec.{ltb}
 use lib.ListN.{length}
@@ -8,7 +8,6 @@ use lib.Seq.{sets}
 use Rattle.display.specs.declared.panel.Panel.{Panel}
 use Rattle.display.specs.State.{validPanel}
 use Rattle.controller.specs.Run.{logOf}
-use Rattle.book.specs.Operation.{Operation}
 use Rattle.book.specs.Screen.{Screen, screen, refused, screenOf}
 use Rattle.writer.specs.declared.written.Written.{Written}
 use Rattle.writer.specs.Stream.{streamOf, countOf}
@@ -17,6 +16,9 @@ use Rattle.writer.specs.Stream.{streamOf, countOf}
 pub record Wrote : Type 0 where
   pub written : Written
   pub room : List ℕ
+
+abbrev pub wroteAll : Written → List ℕ → Wrote
+wroteAll written room = record { written = written; room = room }
 
 abbrev pub wrote : ℕ → ℕ → ℕ → List ℕ → Wrote
 wrote n place pairs room = record { written = record { number = n; place = place; pairs = pairs }; room = room }

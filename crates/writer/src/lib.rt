@@ -1,4 +1,7 @@
 // A screen of a book becomes a stream of pairs.
 pub mod homes;
+mod opening;
+mod put;
 mod stream;
+pub mod write;
 pub mod written;
