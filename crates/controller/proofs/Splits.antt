@@ -9,6 +9,7 @@ use native.Mathlib.Decide.{decLt}
 use lib.Dec.{ltb}
 use lib.ListN.{length, set, length-append, length-set}
 use borrow.Author.Tests.{lt-ltb, le-ltb}
+use Rattle.ground.proofs.Stores.{set-behind}
 use Rattle.controller.specs.Access.{Pair, Step, done, answered, refused}
 use Rattle.controller.specs.Run.{Standing, Turn, went, halted, turnOf, End, whole, short, Run, afterTurn, runFrom}
 
@@ -70,11 +71,6 @@ module _ {M : Type 0} (step : M → Pair → Step M) where
           ≡ shifted n (afterTurn o (λ x. runFrom step (suc k) qs x) (λ m. record { standing = s; taken = k; end = short m }))
       go (went x) h = h x
       go (halted m) h = refl
-
-  set-behind : (xs ys : List ℕ) (i b : ℕ) → set (xs ++ ys) (length xs + i) b ≡ xs ++ set ys i b
-  set-behind [] ys i b = ap (λ (n : ℕ). set ys n b) (let e : 0 + i ≡ i = omega arith in e)
-  set-behind (x ∷ xs) ys i b =
-      ap (λ (n : ℕ). set (x ∷ (xs ++ ys)) n b) (let e : suc (length xs) + i ≡ suc (length xs + i) = omega arith in e) ∙ ap (λ (l : List ℕ). x ∷ l) (set-behind xs ys i b)
 
   turn-behind : (front : List ℕ) (s : Standing M) (o : Step M) → turnOf (behind front s) o ≡ behindTurn front (turnOf s o)
   turn-behind front s (done m) = refl

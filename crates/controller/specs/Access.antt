@@ -19,6 +19,13 @@ pub record Pair : Type 0 where
   pub kind : ℕ
   pub byte : ℕ
 
+-- 0 data write, 1 command
+abbrev pub datum : ℕ → Pair
+datum b = record { kind = 0; byte = b }
+
+abbrev pub code : ℕ → Pair
+code b = record { kind = 1; byte = b }
+
 -- the registers and the display memory
 pub record Machine : Type 0 where
   pub registers : Registers

@@ -3,3 +3,4 @@ pub mod Cases
 pub mod Doors
 pub mod Dots
 pub mod Painted
+pub mod Plain

@@ -8,20 +8,11 @@ use lib.ListN.{length, set, replicate, length-append}
 use lib.Seq.{sets, length-sets}
 use Rattle.controller.specs.Access.{Pair}
 use Rattle.controller.specs.Run.{logOf}
+use Rattle.controller.proofs.Logs.{log-append, log-length}
 use Rattle.ground.specs.Lists.{zeros}
 use Rattle.display.specs.declared.panel.Panel.{Panel}
 use Rattle.writer.specs.Stream.{datum, code, pointTo, block, graphicHome, textHome, glyphHome, setUp, opening}
 use Rattle.writer.specs.Put.{Put}
-
-pub log-append : (ps qs : List Pair) → logOf (ps ++ qs) ≡ logOf ps ++ logOf qs
-unfolding logOf
-log-append [] qs = refl
-log-append (p ∷ ps) qs = ap (λ (l : List ℕ). p .kind ∷ p .byte ∷ l) (log-append ps qs)
-
-pub log-length : (ps : List Pair) → length (logOf ps) ≡ 2 * length ps
-unfolding logOf
-log-length [] = refl
-log-length (p ∷ ps) = omega (arith, log-length ps)
 
 sets-append : (xs ys l : List ℕ) (i : ℕ) → sets (sets l i xs) (i + length xs) ys ≡ sets l i (xs ++ ys)
 sets-append [] ys l i = rw add-zero

@@ -7,15 +7,8 @@ use Rattle.ground.specs.Lists.{zeros}
 use Rattle.display.specs.declared.panel.Panel.{Panel}
 use Rattle.display.specs.declared.registers.Combination.{Combination}
 use Rattle.display.specs.declared.registers.Combination.the-variants.{Or, Exor, And, Attribute}
-use Rattle.controller.specs.Access.{Pair}
+pub use Rattle.controller.specs.Access.{Pair, datum, code}
 use Rattle.book.specs.Operation.{Operation, text, rectangle, dot, glyph, cursor, combine, bodyCount, dotByte, dotBit}
-
--- a data write, and a command
-abbrev pub datum : ℕ → Pair
-datum b = record { kind = 0; byte = b }
-
-abbrev pub code : ℕ → Pair
-code b = record { kind = 1; byte = b }
 
 -- pointer set
 unfoldable pub pointTo : ℕ → List Pair

@@ -1,0 +1,76 @@
+-- The machine that shows a picture has the picture's cells, in either phase, and so its frame.
+use mathlib.Core.Path.{_≡_, refl, sym, ap, ap₂, _∙_}
+use mathlib.Core.Bool.{Bool, true, false, cond, _&&_}
+use mathlib.Core.List.{List}
+use Prim.Native.Nat.{ℕ, _+_, _-_, _*_, _/_, _%_, _^_, _≤_, _<_}
+use native.Mathlib.Nat.{mul-le-mul-right, mul-assoc}
+use native.Mathlib.Omega.{arith}
+use lib.Dec.{ltb}
+use lib.ListN.{length, getD}
+use borrow.Author.Tests.{ltb-false}
+use Rattle.ground.specs.Packing.{frameFrom}
+use Rattle.ground.proofs.Frames.{frame-cong}
+use Rattle.display.specs.declared.panel.Panel.{Panel}
+use Rattle.display.specs.declared.registers.Cursor.{Cursor}
+use Rattle.display.specs.declared.registers.Display.{Display}
+use Rattle.display.specs.State.{validPanel}
+use Rattle.display.specs.Displayed.{addressOf, combined, cursorLit, cursorCovers, cellByte}
+use Rattle.display.specs.Frame.{frameOf}
+use Rattle.display.proofs.Plain.{plain, plainGlyph, cell-plain}
+use Rattle.controller.specs.Effect.{withPhase}
+use Rattle.writer.proofs.Places.{cells-few, some-width}
+use Rattle.picture.specs.declared.cursor.Laid.{Laid}
+use Rattle.picture.specs.declared.cursor.Laid.the-variants.{Nowhere, Over}
+use Rattle.picture.specs.Picture.{Picture, pictureGlyph, litIn, coveredBy, pictureCell, pictureFrame}
+use Rattle.rehearsal.proofs.Areas.{laid, graphic-at, text-at, glyph-at}
+use Rattle.rehearsal.proofs.Simulated.{cursorOn, cursorBlinks, cursorIn, planeAt, displayFor, Shape}
+
+cursor-same : (p : Panel) (found : Cursor) (k : Laid) (phase : Bool) (l v c : ℕ)
+    → (cursorLit (cursorOn k) (cursorBlinks k) phase && cursorCovers p (cursorIn found k) l v c) ≡ (litIn k phase && coveredBy p k l v c)
+cursor-same p found Nowhere phase l v c = refl
+cursor-same p found (Over k blink) phase l v c = refl
+
+module _ (p : Panel) (v : validPanel p ≡ true) (g h : List ℕ) (a : Picture) (s : Shape p g h a) where
+  abbrev mem : List ℕ
+  mem = laid g h (a .graphic) (a .codes) (a .glyphs)
+
+  code-same : (l c : ℕ) → l < p .lines → c < p .columns → getD mem (addressOf (planeAt 0x4000 p) l c) 0 ≡ getD (a .codes) (l * p .columns + c) 0
+  code-same l c i j =
+      let few : l * p .columns + c < p .lines * p .columns = omega (arith, mul-le-mul-right (p .columns) i) in
+      let e : (0x4000 + l * p .columns + c) % 65536 ≡ 0x4000 + (l * p .columns + c) = omega (arith, cells-few p v) in
+      ap (λ (n : ℕ). getD mem n 0) e ∙ text-at g h (a .graphic) (a .codes) (a .glyphs) (s .fits) (l * p .columns + c) (omega (arith, s .codes))
+
+  graphic-same : (r c : ℕ) → r < 8 * p .lines → c < p .columns → getD mem (addressOf (planeAt 0 p) r c) 0 ≡ getD (a .graphic) (r * p .columns + c) 0
+  graphic-same r c i j =
+      let few : r * p .columns + c < 8 * p .lines * p .columns = omega (arith, mul-le-mul-right (p .columns) i) in
+      let e : (0 + r * p .columns + c) % 65536 ≡ r * p .columns + c = omega (arith, cells-few p v, mul-assoc 8 (p .lines) (p .columns)) in
+      ap (λ (n : ℕ). getD mem n 0) e ∙ graphic-at g h (a .graphic) (a .codes) (a .glyphs) (s .fits) (r * p .columns + c) (omega (arith, s .graphic))
+
+  glyph-same : (rom : List ℕ) (k i : ℕ) → plainGlyph 0x1f mem rom k i ≡ pictureGlyph rom a k i
+  unfolding pictureGlyph
+  glyph-same rom k i = by (ltb k 0x80) refl
+    where
+      by : (t : Bool) → ltb k 0x80 ≡ t
+          → cond t (getD rom (8 * k + i) 0) (getD mem (2048 * 0x1f + 8 * k + i) 0) ≡ cond t (getD rom (8 * k + i) 0) (getD (a .glyphs) (8 * (k - 0x80) + i) 0)
+      by true e = refl
+      by false e =
+          let high : 0x80 ≤ k = ltb-false k 0x80 e in
+          let q : 2048 * 0x1f + 8 * k + i ≡ 0xfc00 + (8 * (k - 0x80) + i) = omega arith in
+          ap (λ (n : ℕ). getD mem n 0) q ∙ glyph-at g h (a .graphic) (a .codes) (a .glyphs) (s .fits) (8 * (k - 0x80) + i)
+
+  module _ (d : Display) (rom : List ℕ) (phase : Bool) where
+    cell-same : (r c : ℕ) → r < 8 * p .lines → c < p .columns
+        → cellByte p (withPhase (displayFor p d a) phase) mem rom r c ≡ pictureCell p rom a phase r c
+    unfolding displayFor pictureCell
+    cell-same r c i j =
+        let w : ℕ = 2 ^ p .width in
+        cell-plain p (planeAt 0x4000 p) (planeAt 0 p) 0x1f (a .combination) (cursorOn (a .cursor)) (cursorBlinks (a .cursor)) (cursorIn (d .cursor) (a .cursor)) phase mem rom r c (s .plain)
+        ∙ (λ t. cond (cursor-same p (d .cursor) (a .cursor) phase (r / 8) (r % 8) c t) (w - 1)
+        (combined (a .combination)
+        ((ap (λ (k : ℕ). plainGlyph 0x1f mem rom k (r % 8)) (code-same (r / 8) c (omega arith) j) ∙ glyph-same rom (getD (a .codes) (r / 8 * p .columns + c) 0) (r % 8)) t % w)
+        (graphic-same r c i j t % w)))
+
+    pub frame-same : frameOf p (withPhase (displayFor p d a) phase) mem rom ≡ pictureFrame p rom a phase
+    unfolding frameOf pictureFrame
+    frame-same =
+        frame-cong (p .columns) (p .lines) (p .width) (some-width p v) (cellByte p (withPhase (displayFor p d a) phase) mem rom) (pictureCell p rom a phase) cell-same

@@ -1,0 +1,135 @@
+-- The theorem of demand 3.
+use mathlib.Core.Path.{_≡_, refl, sym, ap, subst, _∙_}
+use mathlib.Core.Bool.{Bool, true, false, _&&_, _||_, true≢false}
+use mathlib.Core.List.{List, [], _∷_, _++_}
+use mathlib.Core.Logic.{_⊎_, inl, inr}
+use Prim.Native.Nat.{ℕ, suc, _+_, _*_, _<_, _≤_}
+use native.Mathlib.Omega.{arith}
+use native.Mathlib.Decide.{decLt, decLe}
+use lib.Dec.{ltb, leb}
+use lib.ListN.{length, getD, set, take, drop}
+use lib.Seq.{sets, sets-eq, take-at, getD-set-other}
+use borrow.Author.Tests.{ltb-false, leb-false, lt-ltb, le-leb, eq-eqb}
+use Rattle.ground.proofs.Tests.{both}
+use Rattle.display.specs.declared.panel.Panel.{Panel}
+use Rattle.display.specs.declared.registers.Registers.{Registers}
+use Rattle.display.specs.State.{validRegisters}
+use Rattle.controller.specs.Run.{logOf, RanAll, ranAll, runOf}
+use Rattle.controller.proofs.Logs.{log-length, run-takes, takes-valid}
+use Rattle.book.specs.Operation.{Operation}
+use Rattle.book.specs.Screen.{screen, screenOf}
+use Rattle.writer.specs.Stream.{streamOf}
+use Rattle.writer.specs.Put.{operationsIn}
+use Rattle.writer.specs.Written.{writeOf}
+use Rattle.writer.proofs.Lengths.{stream-length}
+use Rattle.writer.proofs.Answers.{Streamed, write-accepted}
+use Rattle.picture.specs.Picture.{Picture, pictureOf}
+use Rattle.rehearsal.specs.Demand3.{inAreas, holding, Shows, Demand3}
+use Rattle.rehearsal.proofs.Areas.{laid, stored-over}
+use Rattle.rehearsal.proofs.Simulated.{displayFor, machineFor, Shape}
+use Rattle.rehearsal.proofs.Openings.{firstGap, secondGap, found, found-laid, found-shape, Drawn, stream-draws}
+use Rattle.rehearsal.proofs.Cells.{frame-same}
+
+-- a place that is not stored to
+apart : (vs l : List ℕ) (i j : ℕ) → (j < i) ⊎ (i + length vs ≤ j) → getD (sets l i vs) j 0 ≡ getD l j 0
+apart [] l i j h = refl
+apart (v ∷ vs) l i j h = apart vs (set l i v) (suc i) j (next h) ∙ getD-set-other l i j v 0 (other h)
+  where
+    next : (j < i) ⊎ (i + suc (length vs) ≤ j) → (j < suc i) ⊎ (suc i + length vs ≤ j)
+    next (inl a) = inl (omega arith)
+    next (inr a) = inr (omega arith)
+
+    other : (j < i) ⊎ (i + suc (length vs) ≤ j) → j ≡ i → ⊥
+    other (inl a) e = omega arith
+    other (inr a) e = omega arith
+
+neither : (a b : Bool) → (a || b) ≡ false → (a ≡ false) × (b ≡ false)
+neither true b e = absurd (true≢false e)
+neither false b e = (refl, e)
+
+not-both : (a b : Bool) → (a && b) ≡ false → (a ≡ false) ⊎ (b ≡ false)
+not-both true b e = inr e
+not-both false b e = inl refl
+
+module _ (p : Panel) (mem : List ℕ) (a : Picture) (graphic : length (a .graphic) ≡ 8 * p .lines * p .columns) (codes : length (a .codes) ≡ p .lines * p .columns) where
+  -- outside the areas nothing is stored
+  holding-outside : (i : ℕ) → inAreas p i ≡ false → getD (holding mem a) i 0 ≡ getD mem i 0
+  holding-outside i e =
+      let one = neither (ltb i (8 * p .lines * p .columns) || (leb 0x4000 i && ltb i (0x4000 + p .lines * p .columns))) (leb 0xfc00 i) e in
+      let two = neither (ltb i (8 * p .lines * p .columns)) (leb 0x4000 i && ltb i (0x4000 + p .lines * p .columns)) (one .0) in
+      let low : 8 * p .lines * p .columns ≤ i = ltb-false i (8 * p .lines * p .columns) (two .0) in
+      apart (a .glyphs) _ 0xfc00 i (inl (leb-false 0xfc00 i (one .1)))
+      ∙ apart (a .codes) _ 0x4000 i (text (not-both (leb 0x4000 i) (ltb i (0x4000 + p .lines * p .columns)) (two .1)))
+      ∙ apart (a .graphic) mem 0 i (inr (omega (arith, graphic)))
+    where
+      text : (leb 0x4000 i ≡ false) ⊎ (ltb i (0x4000 + p .lines * p .columns) ≡ false) → (i < 0x4000) ⊎ (0x4000 + length (a .codes) ≤ i)
+      text (inl h) = inl (leb-false 0x4000 i h)
+      text (inr h) = inr (let l : 0x4000 + p .lines * p .columns ≤ i = ltb-false i (0x4000 + p .lines * p .columns) h in omega (arith, codes))
+
+-- the room's start is the stream
+written-log : (room log : List ℕ) {n : ℕ} → n ≡ length log → n ≤ length room → take n (sets room 0 log) ≡ log
+written-log room log {n} e l =
+    ap (take n) (sets-eq log room 0 (omega arith)) ∙ take-at log (drop (0 + length log) room) n (sym e)
+
+module _ (p : Panel) (book : List ℕ) (number : ℕ) (room : List ℕ) (r : Registers) (mem rom buffer : List ℕ) (limit : ℕ)
+    (bytes : (i : ℕ) → getD book i 0 < 256) (valid : validRegisters r ≡ true) (size : length mem ≡ 65536) (characters : length rom ≡ 1024)
+    (w : Streamed p book number room (writeOf p book number room .written) (writeOf p book number room .room))
+    (few : writeOf p book number room .written .pairs ≤ limit) where
+  abbrev g : List ℕ
+  g = firstGap p mem
+
+  abbrev h : List ℕ
+  h = secondGap p mem
+
+  abbrev a : Picture
+  a = pictureOf p (w .os)
+
+  drawn : Drawn p (w .valid) mem size rom r (w .os)
+  drawn = stream-draws p (w .valid) mem size rom r book bytes number (w .whole)
+
+  -- what the run over the stream comes to
+  abbrev came : RanAll
+  came =
+      ranAll (record { number = 0; place = 0; taken = length (streamOf p (w .os)); answers = 0; registers = machineFor p r g h a (drawn .pointer) .registers })
+      (laid g h (a .graphic) (a .codes) (a .glyphs)) buffer
+
+  holds : laid g h (a .graphic) (a .codes) (a .glyphs) ≡ holding mem a
+  holds =
+      let s : Shape p g h (found p mem) = found-shape p (w .valid) mem size in
+      sym
+      (ap (λ (m : List ℕ). holding m a) (found-laid p (w .valid) mem)
+      ∙ stored-over g h (found p mem .graphic) (found p mem .codes) (found p mem .glyphs) (a .graphic) (a .codes) (a .glyphs) (s .fits)
+      (drawn .shape .graphic ∙ sym (s .graphic)) (drawn .shape .codes ∙ sym (s .codes)) (drawn .shape .fits .glyphs ∙ sym (s .fits .glyphs)))
+
+  came-shows : Shows p (w .os) r mem rom buffer came
+  unfolding displayFor
+  came-shows =
+      record {
+        number = refl;
+        place = refl;
+        taken = stream-length p book number (w .whole);
+        frame = λ phase. frame-same p (w .valid) g h a (drawn .shape) (r .display) rom phase;
+        outside = λ i e. ap (λ (m : List ℕ). getD m i 0) holds ∙ holding-outside p mem a (drawn .shape .graphic) (drawn .shape .codes) i e;
+        memory = holds;
+        phase = refl;
+        valid = takes-valid p r mem rom valid size (drawn .run);
+        none = refl;
+        answers = refl;
+      }
+
+  run-is : runOf p r mem rom (take (2 * writeOf p book number room .written .pairs) (writeOf p book number room .room)) limit buffer ≡ came
+  run-is =
+      ap (λ (l : List ℕ). runOf p r mem rom l limit buffer)
+      (ap (take (2 * writeOf p book number room .written .pairs)) (w .holds)
+      ∙ written-log room (logOf (streamOf p (w .os))) (omega (arith, w .pairs, log-length (streamOf p (w .os)))) (w .fits))
+      ∙ run-takes p r mem rom (streamOf p (w .os)) limit buffer (w .valid) valid (both (eq-eqb (length mem) 65536 size) (eq-eqb (length rom) 1024 characters)) (omega (arith, w .pairs)) (drawn .run)
+
+  shows : Shows p (operationsIn (screenOf p book number)) r mem rom buffer
+      (runOf p r mem rom (take (2 * writeOf p book number room .written .pairs) (writeOf p book number room .room)) limit buffer)
+  shows =
+      subst (λ (os : List Operation). Shows p os r mem rom buffer _) (sym (ap operationsIn (w .whole)))
+      (subst (λ (e : RanAll). Shows p (w .os) r mem rom buffer e) (sym run-is) came-shows)
+
+pub demand-3 : Demand3
+demand-3 p book number room r mem rom answers limit bytes accepted valid size characters few =
+    shows p book number room r mem rom answers limit bytes valid size characters (write-accepted p book number room refl accepted) few

@@ -1,0 +1,5 @@
+pub mod Areas
+pub mod Simulated
+pub mod Openings
+pub mod Cells
+pub mod Demand3

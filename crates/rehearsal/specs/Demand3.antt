@@ -1,0 +1,59 @@
+-- Demand 3: a written screen, run on any controller, shows its picture.
+use mathlib.Core.Path.{_≡_}
+use mathlib.Core.Bool.{Bool, true, false, _&&_, _||_}
+use mathlib.Core.List.{List}
+use Prim.Native.Nat.{ℕ, _+_, _*_, _<_, _≤_}
+use lib.Dec.{ltb, leb}
+use lib.ListN.{length, getD, take}
+use lib.Seq.{sets}
+use Rattle.display.specs.declared.panel.Panel.{Panel}
+use Rattle.display.specs.declared.registers.Registers.{Registers}
+use Rattle.display.specs.State.{validRegisters}
+use Rattle.display.specs.Frame.{frameOf}
+use Rattle.controller.specs.Effect.{withPhase}
+use Rattle.controller.specs.Run.{RanAll, runOf}
+use Rattle.book.specs.Operation.{Operation}
+use Rattle.book.specs.Screen.{screenOf}
+use Rattle.writer.specs.Stream.{graphicHome, textHome, glyphHome, countOf}
+use Rattle.writer.specs.Put.{operationsIn}
+use Rattle.writer.specs.Written.{writeOf}
+use Rattle.picture.specs.Picture.{Picture, pictureOf, pictureFrame}
+
+-- the three areas are those cleared: C·8L bytes from 0, C·L from 4000H, 1,024 from FC00H
+abbrev pub inAreas : Panel → ℕ → Bool
+inAreas p i =
+    ltb i (8 * p .lines * p .columns) || (leb textHome i && ltb i (textHome + p .lines * p .columns)) || leb glyphHome i
+
+-- a memory with the planes of a picture in the three areas
+abbrev pub holding : List ℕ → Picture → List ℕ
+holding mem a = sets (sets (sets mem graphicHome (a .graphic)) textHome (a .codes)) glyphHome (a .glyphs)
+
+-- what is asked of a run over the stream of these operations
+pub record Shows (p : Panel) (os : List Operation) (r : Registers) (mem rom buffer : List ℕ) (e : RanAll) : Type 0 where
+  -- refused nowhere, and exactly the stated number of pairs taken
+  pub number : e .ran .number ≡ 0
+  pub place : e .ran .place ≡ 0
+  pub taken : e .ran .taken ≡ countOf p os
+  -- for either phase the frame of the machine then, its phase set to that phase, is the picture in that phase
+  pub frame : (phase : Bool) → frameOf p (withPhase (e .ran .registers .display) phase) (e .memory) rom ≡ pictureFrame p rom (pictureOf p os) phase
+  -- every address outside the three areas holds what it held
+  pub outside : (i : ℕ) → inAreas p i ≡ false → getD (e .memory) i 0 ≡ getD mem i 0
+  -- inside them are the picture's planes; the phase is the one found, and nothing was answered
+  pub memory : e .memory ≡ holding mem (pictureOf p os)
+  pub phase : e .ran .registers .display .phase ≡ r .display .phase
+  pub valid : validRegisters (e .ran .registers) ≡ true
+  pub none : e .ran .answers ≡ 0
+  pub answers : e .answers ≡ buffer
+
+-- every panel, book and screen that the writer accepts, every valid registers, every memory of 65,536 bytes, every ROM of 1,024
+abbrev pub Demand3 : Type 0
+Demand3 =
+    (p : Panel) (book : List ℕ) (number : ℕ) (room : List ℕ) (r : Registers) (mem rom answers : List ℕ) (limit : ℕ)
+    → ((i : ℕ) → getD book i 0 < 256)
+    → writeOf p book number room .written .number ≡ 0
+    → validRegisters r ≡ true
+    → length mem ≡ 65536
+    → length rom ≡ 1024
+    → writeOf p book number room .written .pairs ≤ limit
+    → Shows p (operationsIn (screenOf p book number)) r mem rom answers
+    (runOf p r mem rom (take (2 * writeOf p book number room .written .pairs) (writeOf p book number room .room)) limit answers)
