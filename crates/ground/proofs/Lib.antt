@@ -2,6 +2,7 @@ pub mod Filling
 pub mod Frames
 pub mod Lists
 pub mod Packing
+pub mod Packs
 pub mod Rounds
 pub mod Rows
 pub mod Searches

@@ -1,8 +1,11 @@
 -- 01, Panel and memory: the frame's rows of dots, packed leftmost dot in the top bit.
-use Prim.Native.Nat.{ℕ, zero, suc, _+_, _-_, _*_, _/_, _%_, _^_}
+use Prim.Native.Nat.{ℕ, zero, suc, _+_, _-_, _*_, _/_, _%_, _^_, _≤_}
+use mathlib.Core.Path.{_≡_}
+use mathlib.Core.Logic.{_⊎_}
 use mathlib.Core.List.{List}
-use mathlib.Core.Bool.{cond}
-use lib.Dec.{ltb}
+use mathlib.Core.Bool.{Bool, cond, _&&_, _||_}
+use lib.Dec.{ltb, leb, eqb}
+use lib.ListN.{length, getD}
 use Rattle.ground.specs.Lists.{build, joined}
 
 -- dot x of a row of C cells of w dots, bit w - 1 of a cell's byte leftmost; spare bits 0
@@ -25,3 +28,23 @@ rowFrom C w cell = build (rowBytes C w) (λ j. packed (dotAt C w cell) (8 * j) 8
 -- the 8L rows one after the other; cell r c is the byte shown at dot row r and column c
 unfoldable pub frameFrom : ℕ → ℕ → ℕ → (ℕ → ℕ → ℕ) → List ℕ
 frameFrom C L w cell = joined (8 * L) (λ r. rowFrom C w (cell r))
+
+-- dot x of a row whose cells stand in a list
+unfoldable pub dotIn : ℕ → List ℕ → ℕ → ℕ
+dotIn w cells x = dotAt (length cells) w (λ c. getD cells c 0) x
+
+-- the row of such cells
+unfoldable pub rowIn : ℕ → List ℕ → List ℕ
+rowIn w cells = rowFrom (length cells) w (λ c. getD cells c 0)
+
+-- w 6 or 8, at most 80 cells
+abbrev pub packs : ℕ → List ℕ → Bool
+packs w cells = (eqb w 6 || eqb w 8) && leb (length cells) 80
+
+pub record Packable (w : ℕ) (cells : List ℕ) : Type 0 where
+  pub width : (w ≡ 6) ⊎ (w ≡ 8)
+  pub few : length cells ≤ 80
+
+-- their row in a buffer of just its bytes; any other buffer, and what cannot be packed, leaves it as it was
+unfoldable pub packOf : ℕ → List ℕ → List ℕ → List ℕ
+packOf w cells out = cond (packs w cells) (cond (eqb (length out) (rowBytes (length cells) w)) (rowIn w cells) out) out

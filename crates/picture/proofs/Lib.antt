@@ -1,0 +1,5 @@
+pub mod Storing
+pub mod Places
+pub mod Cells
+pub mod Bodies
+pub mod Answers

@@ -1,0 +1,8 @@
+// All of a picture but its planes.
+use super::cursor::Laid;
+use display::registers::Combination;
+
+pub(crate) struct Style {
+    pub combination: Combination,
+    pub cursor: Laid,
+}
