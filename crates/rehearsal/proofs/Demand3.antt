@@ -8,7 +8,7 @@ use native.Mathlib.Omega.{arith}
 use native.Mathlib.Decide.{decLt, decLe}
 use lib.Dec.{ltb, leb}
 use lib.ListN.{length, getD, set, take, drop}
-use lib.Seq.{sets, sets-eq, take-at, getD-set-other}
+use lib.Seq.{sets, sets-eq, length-sets, take-at, getD-set-other}
 use borrow.Author.Tests.{ltb-false, leb-false, lt-ltb, le-leb, eq-eqb}
 use Rattle.ground.proofs.Tests.{both}
 use Rattle.display.specs.declared.panel.Panel.{Panel}
@@ -18,9 +18,9 @@ use Rattle.controller.specs.Run.{logOf, RanAll, ranAll, runOf}
 use Rattle.controller.proofs.Logs.{log-length, run-takes, takes-valid}
 use Rattle.book.specs.Operation.{Operation}
 use Rattle.book.specs.Screen.{screen, screenOf}
+use Rattle.writer.specs.declared.written.Written.{Written}
 use Rattle.writer.specs.Stream.{streamOf}
 use Rattle.writer.specs.Put.{operationsIn}
-use Rattle.writer.specs.Written.{writeOf}
 use Rattle.writer.proofs.Lengths.{stream-length}
 use Rattle.writer.proofs.Answers.{Streamed, write-accepted}
 use Rattle.picture.specs.Picture.{Picture, pictureOf}
@@ -66,15 +66,19 @@ module _ (p : Panel) (mem : List ℕ) (a : Picture) (graphic : length (a .graphi
       text (inl h) = inl (leb-false 0x4000 i h)
       text (inr h) = inr (let l : 0x4000 + p .lines * p .columns ≤ i = ltb-false i (0x4000 + p .lines * p .columns) h in omega (arith, codes))
 
+pub holding-length : (mem : List ℕ) (a : Picture) → length (holding mem a) ≡ length mem
+holding-length mem a =
+    length-sets (sets (sets mem 0 (a .graphic)) 0x4000 (a .codes)) 0xfc00 (a .glyphs)
+    ∙ length-sets (sets mem 0 (a .graphic)) 0x4000 (a .codes) ∙ length-sets mem 0 (a .graphic)
+
 -- the room's start is the stream
 written-log : (room log : List ℕ) {n : ℕ} → n ≡ length log → n ≤ length room → take n (sets room 0 log) ≡ log
 written-log room log {n} e l =
     ap (take n) (sets-eq log room 0 (omega arith)) ∙ take-at log (drop (0 + length log) room) n (sym e)
 
-module _ (p : Panel) (book : List ℕ) (number : ℕ) (room : List ℕ) (r : Registers) (mem rom buffer : List ℕ) (limit : ℕ)
+module _ (p : Panel) (book : List ℕ) (number : ℕ) (room : List ℕ) (r : Registers) (mem rom : List ℕ)
     (bytes : (i : ℕ) → getD book i 0 < 256) (valid : validRegisters r ≡ true) (size : length mem ≡ 65536) (characters : length rom ≡ 1024)
-    (w : Streamed p book number room (writeOf p book number room .written) (writeOf p book number room .room))
-    (few : writeOf p book number room .written .pairs ≤ limit) where
+    {w : Written} {after : List ℕ} (x : Streamed p book number room w after) where
   abbrev g : List ℕ
   g = firstGap p mem
 
@@ -82,54 +86,69 @@ module _ (p : Panel) (book : List ℕ) (number : ℕ) (room : List ℕ) (r : Reg
   h = secondGap p mem
 
   abbrev a : Picture
-  a = pictureOf p (w .os)
+  a = pictureOf p (x .os)
 
-  drawn : Drawn p (w .valid) mem size rom r (w .os)
-  drawn = stream-draws p (w .valid) mem size rom r book bytes number (w .whole)
+  drawn : Drawn p (x .valid) mem size rom r (x .os)
+  drawn = stream-draws p (x .valid) mem size rom r book bytes number (x .whole)
 
-  -- what the run over the stream comes to
-  abbrev came : RanAll
-  came =
-      ranAll (record { number = 0; place = 0; taken = length (streamOf p (w .os)); answers = 0; registers = machineFor p r g h a (drawn .pointer) .registers })
-      (laid g h (a .graphic) (a .codes) (a .glyphs)) buffer
+  module _ (buffer : List ℕ) where
+    -- what the run over the stream comes to
+    abbrev came : RanAll
+    came =
+        ranAll (record { number = 0; place = 0; taken = length (streamOf p (x .os)); answers = 0; registers = machineFor p r g h a (drawn .pointer) .registers })
+        (laid g h (a .graphic) (a .codes) (a .glyphs)) buffer
 
-  holds : laid g h (a .graphic) (a .codes) (a .glyphs) ≡ holding mem a
-  holds =
-      let s : Shape p g h (found p mem) = found-shape p (w .valid) mem size in
-      sym
-      (ap (λ (m : List ℕ). holding m a) (found-laid p (w .valid) mem)
-      ∙ stored-over g h (found p mem .graphic) (found p mem .codes) (found p mem .glyphs) (a .graphic) (a .codes) (a .glyphs) (s .fits)
-      (drawn .shape .graphic ∙ sym (s .graphic)) (drawn .shape .codes ∙ sym (s .codes)) (drawn .shape .fits .glyphs ∙ sym (s .fits .glyphs)))
+    holds : laid g h (a .graphic) (a .codes) (a .glyphs) ≡ holding mem a
+    holds =
+        let s : Shape p g h (found p mem) = found-shape p (x .valid) mem size in
+        sym
+        (ap (λ (m : List ℕ). holding m a) (found-laid p (x .valid) mem)
+        ∙ stored-over g h (found p mem .graphic) (found p mem .codes) (found p mem .glyphs) (a .graphic) (a .codes) (a .glyphs) (s .fits)
+        (drawn .shape .graphic ∙ sym (s .graphic)) (drawn .shape .codes ∙ sym (s .codes)) (drawn .shape .fits .glyphs ∙ sym (s .fits .glyphs)))
 
-  came-shows : Shows p (w .os) r mem rom buffer came
-  unfolding displayFor
-  came-shows =
-      record {
-        number = refl;
-        place = refl;
-        taken = stream-length p book number (w .whole);
-        frame = λ phase. frame-same p (w .valid) g h a (drawn .shape) (r .display) rom phase;
-        outside = λ i e. ap (λ (m : List ℕ). getD m i 0) holds ∙ holding-outside p mem a (drawn .shape .graphic) (drawn .shape .codes) i e;
-        memory = holds;
-        phase = refl;
-        valid = takes-valid p r mem rom valid size (drawn .run);
-        none = refl;
-        answers = refl;
-      }
+    came-shows : Shows p (x .os) r mem rom buffer came
+    unfolding displayFor
+    came-shows =
+        record {
+          number = refl;
+          place = refl;
+          taken = stream-length p book number (x .whole);
+          frame = λ phase. frame-same p (x .valid) g h a (drawn .shape) (r .display) rom phase;
+          outside = λ i e. ap (λ (m : List ℕ). getD m i 0) holds ∙ holding-outside p mem a (drawn .shape .graphic) (drawn .shape .codes) i e;
+          memory = holds;
+          phase = refl;
+          valid = takes-valid p r mem rom valid size (drawn .run);
+          none = refl;
+          answers = refl;
+        }
 
-  run-is : runOf p r mem rom (take (2 * writeOf p book number room .written .pairs) (writeOf p book number room .room)) limit buffer ≡ came
-  run-is =
-      ap (λ (l : List ℕ). runOf p r mem rom l limit buffer)
-      (ap (take (2 * writeOf p book number room .written .pairs)) (w .holds)
-      ∙ written-log room (logOf (streamOf p (w .os))) (omega (arith, w .pairs, log-length (streamOf p (w .os)))) (w .fits))
-      ∙ run-takes p r mem rom (streamOf p (w .os)) limit buffer (w .valid) valid (both (eq-eqb (length mem) 65536 size) (eq-eqb (length rom) 1024 characters)) (omega (arith, w .pairs)) (drawn .run)
+    module _ (limit : ℕ) (few : w .pairs ≤ limit) where
+      over-stream : runOf p r mem rom (logOf (streamOf p (x .os))) limit buffer ≡ came
+      over-stream =
+          run-takes p r mem rom (streamOf p (x .os)) limit buffer (x .valid) valid (both (eq-eqb (length mem) 65536 size) (eq-eqb (length rom) 1024 characters))
+          (omega (arith, x .pairs)) (drawn .run)
 
-  shows : Shows p (operationsIn (screenOf p book number)) r mem rom buffer
-      (runOf p r mem rom (take (2 * writeOf p book number room .written .pairs) (writeOf p book number room .room)) limit buffer)
-  shows =
-      subst (λ (os : List Operation). Shows p os r mem rom buffer _) (sym (ap operationsIn (w .whole)))
-      (subst (λ (e : RanAll). Shows p (w .os) r mem rom buffer e) (sym run-is) came-shows)
+      over-room : runOf p r mem rom (take (2 * w .pairs) after) limit buffer ≡ came
+      over-room =
+          ap (λ (l : List ℕ). runOf p r mem rom l limit buffer)
+          (ap (take (2 * w .pairs)) (x .holds)
+          ∙ written-log room (logOf (streamOf p (x .os))) (omega (arith, x .pairs, log-length (streamOf p (x .os)))) (x .fits))
+          ∙ over-stream
+
+      -- the run over the written room
+      pub shows : Shows p (operationsIn (screenOf p book number)) r mem rom buffer (runOf p r mem rom (take (2 * w .pairs) after) limit buffer)
+      shows =
+          subst (λ (os : List Operation). Shows p os r mem rom buffer _) (sym (ap operationsIn (x .whole)))
+          (subst (λ (e : RanAll). Shows p (x .os) r mem rom buffer e) (sym over-room) came-shows)
+
+  -- the registers then, whatever buffer is lent
+  pub registers-then : (buffer : List ℕ)
+      → runOf p r mem rom (take (2 * w .pairs) after) (w .pairs) buffer .ran .registers
+      ≡ runOf p r mem rom (logOf (streamOf p (x .os))) (w .pairs) [] .ran .registers
+  registers-then buffer =
+      ap (λ (e : RanAll). e .ran .registers) (over-room buffer (w .pairs) (omega arith))
+      ∙ sym (ap (λ (e : RanAll). e .ran .registers) (over-stream [] (w .pairs) (omega arith)))
 
 pub demand-3 : Demand3
 demand-3 p book number room r mem rom answers limit bytes accepted valid size characters few =
-    shows p book number room r mem rom answers limit bytes valid size characters (write-accepted p book number room refl accepted) few
+    shows p book number room r mem rom bytes valid size characters (write-accepted p book number room refl accepted) answers limit few

@@ -3,3 +3,4 @@ pub mod Simulated
 pub mod Openings
 pub mod Cells
 pub mod Demand3
+pub mod Rehearsals

@@ -92,6 +92,7 @@ pub record Streamed (p : Panel) (book : List ℕ) (number : ℕ) (room : List �
   pub whole : screenOf p book number ≡ screen os
   pub place : r .place ≡ 0
   pub pairs : r .pairs ≡ length (streamOf p os)
+  pub few : r .pairs ≤ 400000000
   pub fits : 2 * r .pairs ≤ length room
   pub holds : after ≡ sets room 0 (logOf (streamOf p os))
 
@@ -113,6 +114,7 @@ module _ (p : Panel) (book : List ℕ) (number : ℕ) (room : List ℕ) where
         whole = k .whole;
         place = ap (λ (o : Wrote). o .written .place) h;
         pairs = i ∙ total-is p book number refl z ∙ sym (stream-length p book number (k .whole));
+        few = omega (arith, total-few p book number refl z);
         fits = omega (arith, ltb-false (length room) (2 * total p book number refl z) e);
         holds = ap (λ (o : Wrote). o .room) h;
       }
