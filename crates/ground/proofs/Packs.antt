@@ -1,6 +1,6 @@
 -- Rows whose cells stand in a list: their dots and bytes, and what packing them answers.
 use mathlib.Core.Path.{_≡_, refl, ap, sym, _∙_}
-use mathlib.Core.Bool.{Bool, true, false, cond, _&&_, _||_}
+use mathlib.Core.Bool.{Bool, true, false, cond, _||_}
 use mathlib.Core.Logic.{_⊎_, inl, inr, ⊎-elim}
 use mathlib.Core.List.{List}
 use Prim.Native.Nat.{ℕ, _-_, _*_, _/_, _%_, _^_, _<_, _≤_}
@@ -11,7 +11,7 @@ use lib.ListN.{length, getD}
 use borrow.Author.Tests.{leb-true, eqb-true, le-leb, eq-eqb, ne-eqb}
 use Rattle.ground.specs.Lists.{build}
 use Rattle.ground.specs.Packing.{packed, rowBytes, rowFrom, dotIn, rowIn, packs, Packable, packOf}
-use Rattle.ground.proofs.Packing.{dot-lt, dot-in, dot-out, row-length, row-cong}
+use Rattle.ground.proofs.Packing.{dot-lt, dot-in, dot-out, row-cong}
 use Rattle.ground.proofs.Tests.{both, both-left, both-right, either, settled}
 
 module _ {w : ℕ} {cells : List ℕ} (k : Packable w cells) where

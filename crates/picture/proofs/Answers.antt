@@ -1,5 +1,5 @@
 -- What drawing a screen answers, by the tests at the door and by what checking it answered.
-use mathlib.Core.Path.{_≡_, refl, ap, sym, subst, _∙_}
+use mathlib.Core.Path.{_≡_, ap, sym, subst, _∙_}
 use mathlib.Core.Bool.{Bool, true, false, cond, not, _&&_}
 use mathlib.Core.List.{List}
 use Prim.Native.Nat.{ℕ, _-_, _*_}
@@ -13,13 +13,12 @@ use Rattle.display.specs.declared.reply.Reply.{Reply}
 use Rattle.display.specs.State.{validPanel}
 use Rattle.display.specs.Frame.{frameFits, replyOf}
 use Rattle.book.specs.declared.check.Checked.{Checked}
-use Rattle.book.specs.Operation.{Operation}
 use Rattle.book.specs.Screen.{Screen, screen, screenOf, operationsFrom}
 use Rattle.book.specs.Checked.{checkedOf}
 use Rattle.book.proofs.Verdicts.{Accepted, checked-is, checked-refusal}
 use Rattle.picture.specs.declared.style.Style.{Style}
 use Rattle.picture.specs.Picture.{Picture, blank, pictureOf, pictureFrame}
-use Rattle.picture.specs.Ready.{pictureWith, Sized, Paintable, Sound, appliedIn}
+use Rattle.picture.specs.Ready.{pictureWith, Paintable, Sound, appliedIn}
 use Rattle.picture.specs.Drawn.{Drew, drewAll, planesFit, drawScreen, drawOf}
 use Rattle.picture.proofs.Bodies.{PictureSized, all-sized, blank-sized}
 

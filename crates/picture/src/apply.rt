@@ -164,16 +164,16 @@ fn apply_all(
         ≡ appliedIn panel (operationsFrom (end - start) panel (now (book .entry)) start end) (pictureWith (now (graphic .entry)) (now (codes .entry)) (now (glyphs .entry)) style) ⌝ }
 {
     let mut next = start;
-    let mut laid = style;
+    let mut current = style;
     loop {
         let found = read(panel, book, next, end);
         match found {
             Found::Operation(placed, behind) => {
-                laid = apply(panel, book, placed, graphic, codes, glyphs, laid);
+                current = apply(panel, book, placed, graphic, codes, glyphs, current);
                 next = behind;
             }
-            Found::End => return laid,
-            Found::Faulty => return laid,
+            Found::End => return current,
+            Found::Faulty => return current,
         }
     }
 }

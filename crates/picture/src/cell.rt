@@ -1,7 +1,7 @@
 // The byte of a picture's cell in a dot row.
 ghost use mathlib.Core.Path.{_≡_};
 ghost use mathlib.Core.Logic.{_⊎_};
-ghost use Prim.Native.Nat.{_-_, _*_, _%_, _^_, _<_};
+ghost use Prim.Native.Nat.{_-_, _%_, _^_, _<_};
 ghost use lib.ListN.{length};
 ghost use Rattle.picture.specs.Picture.{pictureCell};
 ghost use Rattle.picture.specs.Layers.{glyphIn, textDots, graphicDots};

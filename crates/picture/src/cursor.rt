@@ -22,6 +22,7 @@ impl Laid {
             Laid::Over(_, blink) => !blink | phase,
         }
     }
+
     // Whether it covers a cell in the cell's dot row v.
     pub(crate) fn covers(self, panel: Panel, line: usize, v: usize, column: usize) -> bool
         requires { ⌜ v < 8 ⌝ }

@@ -10,6 +10,14 @@ use super::style::Style;
 use display::panel::Panel;
 use ground::cells::pack;
 
+// R, the bytes of a row.
+pub(crate) fn row_bytes(columns: usize, width: usize) -> usize
+    requires { ⌜ (columns ≤ 80) × (width ≤ 8) ⌝ }
+    ensures { λ r. ⌜ r ≡ rowBytes columns width ⌝ }
+{
+    (columns * width + 7) / 8
+}
+
 // The cells of a dot row, at most eighty, gathered and packed.
 fn paint_row(
     panel: Panel,
@@ -80,12 +88,4 @@ pub(crate) fn paint_rows(
         );
         row += 1;
     }
-}
-
-// R, the bytes of a row.
-pub(crate) fn row_bytes(columns: usize, width: usize) -> usize
-    requires { ⌜ (columns ≤ 80) × (width ≤ 8) ⌝ }
-    ensures { λ r. ⌜ r ≡ rowBytes columns width ⌝ }
-{
-    (columns * width + 7) / 8
 }

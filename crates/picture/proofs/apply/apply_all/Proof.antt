@@ -9,11 +9,11 @@ use Rattle.picture.proofs.apply.apply_all.Statement.{statement}
 use Rattle.picture.proofs.apply.apply_all.Tie as tie
 
 abbrev Inv-loop : tie.InvT-loop
-Inv-loop panel book start end graphic₀ codes₀ glyphs₀ next₀ laid₀ graphic codes glyphs next laid =
-    Drawing panel book start end (pictureWith graphic₀ codes₀ glyphs₀ laid₀) (pictureWith graphic codes glyphs laid) next
+Inv-loop panel book start end graphic₀ codes₀ glyphs₀ next₀ current₀ graphic codes glyphs next current =
+    Drawing panel book start end (pictureWith graphic₀ codes₀ glyphs₀ current₀) (pictureWith graphic codes glyphs current) next
 
 abbrev μ-loop : tie.MeasureT-loop
-μ-loop panel book start end graphic₀ codes₀ glyphs₀ next₀ laid₀ graphic codes glyphs next laid = end - next
+μ-loop panel book start end graphic₀ codes₀ glyphs₀ next₀ current₀ graphic codes glyphs next current = end - next
 
 loop-holds : tie.Need-loop-holds Inv-loop μ-loop
 loop-holds c = let a = c .before .before .before .before .args in drawing (a .panel) (a .book .now) (a .start) (a .end) (pictureWith (a .graphic .now) (a .codes .now) (a .glyphs .now) (a .style)) (c .before .before .before .before .pre .0) (c .before .before .before .before .pre .1)
