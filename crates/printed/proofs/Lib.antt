@@ -1,3 +1,5 @@
 pub mod Puts
 pub mod Decimals
+pub mod Texts
 pub mod Prints
+pub mod Screens

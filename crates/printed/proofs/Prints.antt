@@ -26,10 +26,11 @@ use Rattle.controller.specs.Ready.{standing}
 use Rattle.controller.proofs.Laws.{sounds, sounds-valid}
 use Rattle.controller.proofs.Splitting.{Kept, run-kept}
 use Rattle.printed.specs.Put.{Put}
-use Rattle.printed.specs.Printed.{panelIn, logIn, characterRow, characters, ranIn, textOf, logText, firstLine, frameLine, frameLines, lentRooms, Printed, printed, printOf}
+use Rattle.printed.specs.Printed.{panelIn, logIn, characterRow, characters, ranIn, textOf, logText, ranLine, frameLine, frameLines, lentRooms, Printed, printed, printOf}
 use Rattle.printed.specs.Text.{hexLineAt, hexLines}
 use Rattle.printed.specs.Ready.{Draws, Ready}
-use Rattle.printed.proofs.Puts.{put-same, put-start, dot-line-length}
+use Rattle.printed.proofs.Puts.{put-same, dot-line-length}
+use Rattle.printed.proofs.Texts.{printed-none, printed-all, printed-within, printed-settled}
 
 -- a room filled with 0
 pub built-zeros : (n : ℕ) → build n (λ _. 0) ≡ zeros n
@@ -55,6 +56,14 @@ log-is l {s} {e} i j = go (decLt (length l) 3) (decLt (length l) 16387)
         let a : s ≡ 3 = omega arith in
         let b : e ≡ 16387 = omega arith in
         λ q. take (b q - a q) (drop (a q) l)
+
+-- the input from a place on
+pub rest-is : (l : List ℕ) (head : ℕ) {s : ℕ} → s ≡ min head (length l) → take (length l - s) (drop s l) ≡ drop head l
+rest-is l head {s} i = take-all (length l - s) (drop s l) (rw length-drop (omega arith)) ∙ go (decLt (length l) head)
+  where
+    go : Dec (length l < head) → drop s l ≡ drop head l
+    go (yes h) = drop-of-length-le l {i = s} (omega arith) ∙ sym (drop-of-length-le l {i = head} (omega arith))
+    go (no h) = let a : s ≡ head = omega arith in ap (λ (n : ℕ). drop n l) a
 
 -- the largest row, frame and frame text
 module _ (p : Panel) (q : Panelled p) where
@@ -100,17 +109,17 @@ module _ (p : Panel) (r : Registers) (mem rom log : List ℕ) (limit : ℕ) (ans
 
 -- a run's text, with and without answers and frame
 module _ (p : Panel) (rom : List ℕ) (e : RanAll) {a b : List ℕ} {w : ℕ} where
-  pub text-short : (eqb (e .ran .number) 1 || eqb (e .ran .number) 8) ≡ true → Put a 0 (firstLine (e .ran)) b w → Put a 0 (textOf p rom e) b w
+  pub text-short : (eqb (e .ran .number) 1 || eqb (e .ran .number) 8) ≡ true → Put a 0 (ranLine (e .ran)) b w → Put a 0 (textOf p rom e) b w
   unfolding textOf
   text-short h x =
-      put-same (λ k. cond (sym h k) (firstLine (e .ran)) (firstLine (e .ran) ++ hexLines (e .ran .answers) (e .answers) ++ frameLines p (frameOf p (e .ran .registers .display) (e .memory) rom))) x
+      put-same (λ k. cond (sym h k) (ranLine (e .ran)) (ranLine (e .ran) ++ hexLines (e .ran .answers) (e .answers) ++ frameLines p (frameOf p (e .ran .registers .display) (e .memory) rom))) x
 
   pub text-long : (eqb (e .ran .number) 1 || eqb (e .ran .number) 8) ≡ false
-      → Put a 0 (firstLine (e .ran) ++ hexLines (e .ran .answers) (e .answers) ++ frameLines p (frameOf p (e .ran .registers .display) (e .memory) rom)) b w
+      → Put a 0 (ranLine (e .ran) ++ hexLines (e .ran .answers) (e .answers) ++ frameLines p (frameOf p (e .ran .registers .display) (e .memory) rom)) b w
       → Put a 0 (textOf p rom e) b w
   unfolding textOf
   text-long h x =
-      put-same (λ k. cond (sym h k) (firstLine (e .ran)) (firstLine (e .ran) ++ hexLines (e .ran .answers) (e .answers) ++ frameLines p (frameOf p (e .ran .registers .display) (e .memory) rom))) x
+      put-same (λ k. cond (sym h k) (ranLine (e .ran)) (ranLine (e .ran) ++ hexLines (e .ran .answers) (e .answers) ++ frameLines p (frameOf p (e .ran .registers .display) (e .memory) rom))) x
 
 -- how long the parts are
 pub hex-lines-length : (given : ℕ) (bytes : List ℕ) → length (hexLines given bytes) ≡ given * 3
@@ -179,25 +188,19 @@ ready input {p} {a} {mem} {rom} {answers} i e l =
 module _ (input mem rom answers frame out : List ℕ) where
   pub print-none : lentRooms mem rom answers frame out ≡ false → printed 0 out ≡ printOf input mem rom answers frame out
   unfolding printOf
-  print-none h =
-      λ k. cond (sym h k) (printed (length (logText input)) (logText input ++ drop (length (logText input)) out)) (printed 0 out)
+  print-none h = printed-none (lentRooms mem rom answers frame out) (logText input) out h
 
   pub print-all : lentRooms mem rom answers frame out ≡ true → {p : Panel} {c : List ℕ} {e : RanAll} → p ≡ panelIn input → c ≡ characters → e ≡ ranIn input
       → {b : List ℕ} {w : ℕ} → Put out 0 (textOf p c e) b w → w ≤ 131072 → printed w b ≡ printOf input mem rom answers frame out
   unfolding printOf logText
-  print-all h {p} {c} {e} i j l {b} {w} x s =
-      let t : Put out 0 (textOf (panelIn input) characters (ranIn input)) b w = put-same (λ k. textOf (i k) (j k) (l k)) x in
-      let o = lent mem rom answers frame out h in
-      let n : w ≡ length (textOf (panelIn input) characters (ranIn input)) = omega (arith, t .ends) in
-      (λ k. printed (n k) (put-start t (omega (arith, o .roomy)) k))
-      ∙ (λ k. cond (sym h k) (printed (length (textOf (panelIn input) characters (ranIn input))) (textOf (panelIn input) characters (ranIn input) ++ drop (length (textOf (panelIn input) characters (ranIn input))) out)) (printed 0 out))
+  print-all h i j l x s =
+      printed-all (lentRooms mem rom answers frame out) (logText input) out h (put-same (λ k. textOf (i k) (j k) (l k)) x)
+      (omega (arith, lent mem rom answers frame out h .roomy))
 
   -- the text stands in its room
   pub print-within : {b : List ℕ} {w : ℕ} → printed w b ≡ printOf input mem rom answers frame out → w ≤ length b
   unfolding printOf
-  print-within h =
-      subst (λ (o : Printed). o .count ≤ length (o .out)) (sym h)
-      (cond-has (λ (o : Printed). o .count ≤ length (o .out)) (lentRooms mem rom answers frame out) (rw length-append (omega arith)) (omega arith))
+  print-within h = printed-within (lentRooms mem rom answers frame out) (logText input) out h
 
 -- not refused by 1
 pub not-first : (a b : Bool) → (a || b) ≡ false → a ≡ false
@@ -214,6 +217,4 @@ module _ (p : Panel) (a : Ran) {mem rom answers frame out : List ℕ} (k : Ready
 -- two replies that meet the promise are equal
 pub print-settled : {n k : ℕ} {b c : List ℕ} (input mem rom answers frame out : List ℕ)
     → printed n b ≡ printOf input mem rom answers frame out → printed k c ≡ printOf input mem rom answers frame out → (n ≡ k) × (b ≡ c)
-print-settled input mem rom answers frame out h k =
-    let e = settled h k in
-    (ap (λ (x : Printed). x .count) e, ap (λ (x : Printed). x .out) e)
+print-settled input mem rom answers frame out h k = printed-settled h k

@@ -1,4 +1,5 @@
 pub mod Text
 pub mod Put
 pub mod Printed
+pub mod Screen
 pub mod Ready

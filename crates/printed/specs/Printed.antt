@@ -33,13 +33,17 @@ unfoldable pub ranIn : List ℕ → RanAll
 ranIn input =
     runOf (panelIn input) resetRegisters (zeros 65536) characters (logIn input) (length (logIn input) / 2) (zeros 8192)
 
+-- refusal and place
+unfoldable pub refusalLine : ℕ → ℕ → List ℕ
+refusalLine number place = ascii "refusal " ++ decimal number ++ (ascii " place " ++ decimal place) ++ newline
+
 -- pairs taken, answers, refusal, place
-unfoldable pub firstLine : Ran → List ℕ
-firstLine a =
-    ascii "pairs " ++ decimal (a .taken) ++ (ascii " answers " ++ decimal (a .answers))
-    ++ (ascii " refusal " ++ decimal (a .number))
-    ++ (ascii " place " ++ decimal (a .place))
-    ++ newline
+unfoldable pub firstLine : ℕ → ℕ → ℕ → ℕ → List ℕ
+firstLine pairs answers number place =
+    ascii "pairs " ++ decimal pairs ++ (ascii " answers " ++ decimal answers) ++ ascii " " ++ refusalLine number place
+
+abbrev pub ranLine : Ran → List ℕ
+ranLine a = firstLine (a .taken) (a .answers) (a .number) (a .place)
 
 -- row r of a frame as C·w dots
 abbrev pub frameLine : Panel → List ℕ → ℕ → List ℕ
@@ -51,8 +55,8 @@ frameLines p frame = joined (8 * p .lines) (frameLine p frame)
 -- refusals 1 and 8 print the first line only; else answers and frame follow
 unfoldable pub textOf : Panel → List ℕ → RanAll → List ℕ
 textOf p rom e =
-    cond (eqb (e .ran .number) 1 || eqb (e .ran .number) 8) (firstLine (e .ran))
-    (firstLine (e .ran) ++ hexLines (e .ran .answers) (e .answers)
+    cond (eqb (e .ran .number) 1 || eqb (e .ran .number) 8) (ranLine (e .ran))
+    (ranLine (e .ran) ++ hexLines (e .ran .answers) (e .answers)
     ++ frameLines p (frameOf p (e .ran .registers .display) (e .memory) rom))
 
 unfoldable pub logText : List ℕ → List ℕ
@@ -73,8 +77,8 @@ abbrev pub printed : ℕ → List ℕ → Printed
 printed count out = record { count = count; out = out }
 
 -- the room's start is the text, its rest as it was; with a lent length wrong nothing is printed
+abbrev pub printText : Bool → List ℕ → List ℕ → Printed
+printText lent text out = cond lent (printed (length text) (text ++ drop (length text) out)) (printed 0 out)
+
 unfoldable pub printOf : List ℕ → List ℕ → List ℕ → List ℕ → List ℕ → List ℕ → Printed
-printOf input mem rom answers frame out =
-    cond (lentRooms mem rom answers frame out)
-    (printed (length (logText input)) (logText input ++ drop (length (logText input)) out))
-    (printed 0 out)
+printOf input mem rom answers frame out = printText (lentRooms mem rom answers frame out) (logText input) out

@@ -10,6 +10,7 @@ use Rattle.display.specs.State.{validPanel, validRegisters}
 use Rattle.display.specs.Frame.{lentLengths}
 use Rattle.controller.specs.Types.{Panel, Registers}
 use Rattle.controller.specs.declared.run.Ran.{Ran}
+use Rattle.printed.specs.Screen.{framed}
 
 -- a state that can be drawn, a frame of its size, room for its rows at `at`
 pub record Draws (p : Panel) (r : Registers) (mem rom frame out : List ℕ) (at : ℕ) : Type 0 where
@@ -25,4 +26,10 @@ pub record Ready (p : Panel) (a : Ran) (mem rom answers frame out : List ℕ) : 
   pub given : a .answers ≤ length answers
   pub answered : length answers ≡ 8192
   pub framed : length frame ≡ 10240
+  pub roomy : length out ≡ 131072
+
+-- a screen's rows may be written behind its line
+pub record Lines (p : Panel) (number : ℕ) (frame out : List ℕ) (at : ℕ) : Type 0 where
+  pub framed : framed p number frame ≡ true
+  pub behind : at ≤ 112
   pub roomy : length out ≡ 131072

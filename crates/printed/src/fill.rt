@@ -1,4 +1,4 @@
-// Memory, answers and characters as a run finds them.
+// Memory, answers and characters as a run finds them; the characters for any program that draws.
 ghost use mathlib.Core.Path.{_≡_};
 ghost use lib.ListN.{length};
 ghost use Rattle.ground.specs.Lists.{build, zeros};
@@ -14,7 +14,8 @@ pub(crate) fn fill_zeros(room: &mut [u8])
     }
 }
 
-pub(crate) fn fill_characters(rom: &mut [u8])
+// Row v of code k is (k+v) mod 256.
+pub fn fill_characters(rom: &mut [u8])
     ensures { λ _. ⌜ now (rom .exit) ≡ build (length (now (rom .entry))) characterRow ⌝ }
 {
     let mut i: usize = 0;

@@ -1,18 +1,18 @@
-// The panel and the log out of the input.
+// The panel, the log, a byte and a book out of a program's input.
 ghost use mathlib.Core.Path.{_≡_};
-ghost use lib.ListN.{getD};
+ghost use lib.ListN.{getD, drop};
 ghost use Rattle.printed.specs.Printed.{panelIn, logIn};
 use display::panel::Panel;
 use ground::bytes::lesser;
 
 // A byte of the input, 0 where it is missing.
-fn byte_in(input: &[u8], at: usize) -> u8
+pub fn byte_in(input: &[u8], at: usize) -> u8
     ensures { λ r. ⌜ r ≡ getD (now (input .entry)) at 0 ⌝ }
 {
     if at < input.len() { input[at] } else { 0 }
 }
 
-pub(crate) fn panel_in(input: &[u8]) -> Panel
+pub fn panel_in(input: &[u8]) -> Panel
     ensures { λ r. ⌜ r ≡ panelIn (now (input .entry)) ⌝ }
 {
     Panel {
@@ -28,4 +28,12 @@ pub(crate) fn log_in(input: &[u8]) -> &[u8]
     let start = lesser(3, input.len());
     let end = lesser(3 + 16384, input.len());
     &input[start..end]
+}
+
+// The input behind its first bytes, nothing where it ends before.
+pub fn rest_in(input: &[u8], head: usize) -> &[u8]
+    ensures { λ r. ⌜ now r ≡ drop head (now (input .entry)) ⌝ }
+{
+    let start = lesser(head, input.len());
+    &input[start..]
 }

@@ -1,5 +1,6 @@
-// The text that the log program prints.
-mod fill;
-mod input;
+// The texts that the programs print.
+pub mod fill;
+pub mod input;
 pub mod print;
 mod put;
+pub mod screen;

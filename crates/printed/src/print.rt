@@ -39,7 +39,7 @@ fn put_frame(
 }
 
 // 8·L·R, the bytes of a frame.
-fn frame_size(panel: Panel) -> usize
+pub(crate) fn frame_size(panel: Panel) -> usize
     requires { ⌜ (panel .lines ≤ 16) × (panel .columns * panel .width ≤ 640) ⌝ }
     ensures { λ r. ⌜ r ≡ 8 * panel .lines * rowBytes (panel .columns) (panel .width) ⌝ }
 {
@@ -60,7 +60,7 @@ fn put_ran(
     ensures { λ r. ⌜ Put (now (out .entry)) 0 (textOf panel (now (rom .entry)) (ranAll ran (now (memory .entry)) (now (answers .entry)))) (now (out .exit)) r ⌝ }
     ensures { λ r. ⌜ r ≤ 131072 ⌝ }
 {
-    let at = put_first_line(out, ran);
+    let at = put_first_line(out, ran.taken, ran.answers, ran.number, ran.place);
     if (ran.number == 1) | (ran.number == 8) {
         return at;
     }

@@ -6,8 +6,7 @@ ghost use lib.ListN.{length};
 ghost use Rattle.ground.specs.Packing.{rowBytes};
 ghost use Rattle.printed.specs.Put.{Put};
 ghost use Rattle.printed.specs.Text.{decimal, hexDigit, hexLine, hexLines, dotMark, dotLine};
-ghost use Rattle.printed.specs.Printed.{firstLine, frameLines};
-use controller::run::Ran;
+ghost use Rattle.printed.specs.Printed.{refusalLine, firstLine, frameLines};
 use display::panel::Panel;
 use ground::bytes::bit;
 
@@ -56,18 +55,33 @@ fn put_field(out: &mut [u8], at: usize, word: &[u8], n: usize) -> usize
     put_decimal(out, w, n)
 }
 
+// Refusal and place, to the line's end; at most 56 characters.
+pub(crate) fn put_refusal(out: &mut [u8], at: usize, number: u8, place: usize) -> usize
+    requires { ⌜ at + 56 ≤ length (now out) ⌝ }
+    ensures { λ r. ⌜ Put (now (out .entry)) at (refusalLine number place) (now (out .exit)) r ⌝ }
+    ensures { λ r. ⌜ r ≤ at + 56 ⌝ }
+{
+    let a = put_field(out, at, b"refusal ", number as usize);
+    let b = put_field(out, a, b" place ", place);
+    put_byte(out, b, b'\n')
+}
+
 // The first line, which has at most 112 characters.
-pub(crate) fn put_first_line(out: &mut [u8], ran: Ran) -> usize
+pub(crate) fn put_first_line(
+    out: &mut [u8],
+    pairs: usize,
+    answers: usize,
+    number: u8,
+    place: usize,
+) -> usize
     requires { ⌜ 112 ≤ length (now out) ⌝ }
-    ensures { λ r. ⌜ Put (now (out .entry)) 0 (firstLine ran) (now (out .exit)) r ⌝ }
+    ensures { λ r. ⌜ Put (now (out .entry)) 0 (firstLine pairs answers number place) (now (out .exit)) r ⌝ }
     ensures { λ r. ⌜ r ≤ 112 ⌝ }
 {
-    let number = ran.number as usize;
-    let a = put_field(out, 0, b"pairs ", ran.taken);
-    let b = put_field(out, a, b" answers ", ran.answers);
-    let c = put_field(out, b, b" refusal ", number);
-    let d = put_field(out, c, b" place ", ran.place);
-    put_byte(out, d, b'\n')
+    let a = put_field(out, 0, b"pairs ", pairs);
+    let b = put_field(out, a, b" answers ", answers);
+    let c = put_byte(out, b, b' ');
+    put_refusal(out, c, number, place)
 }
 
 fn hex_digit(d: u8) -> u8

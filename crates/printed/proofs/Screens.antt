@@ -1,0 +1,93 @@
+-- What a screen's text rests on, and the whole text.
+use mathlib.Core.Path.{_≡_, refl, ap, sym, _∙_}
+use mathlib.Core.Bool.{Bool, true, false, cond, _&&_}
+use mathlib.Core.List.{List, [], _++_}
+use Prim.Native.Nat.{ℕ, _*_, _≤_}
+use native.Mathlib.Omega.{arith}
+use lib.Dec.{eqb}
+use lib.ListN.{length}
+use borrow.Author.Tests.{eqb-true, eq-eqb, ne-eqb}
+use Rattle.ground.specs.Packing.{rowBytes}
+use Rattle.ground.proofs.Tests.{both-left, both-right}
+use Rattle.display.specs.State.{validPanel}
+use Rattle.display.specs.Frame.{frameFits}
+use Rattle.display.proofs.Doors.{Panelled, panelled}
+use Rattle.controller.specs.Types.{Panel}
+use Rattle.printed.specs.Put.{Put}
+use Rattle.printed.specs.Printed.{frameLines, printed, printText}
+use Rattle.printed.specs.Screen.{screenLines, pictureText, rehearsalText, framed, lentScreen, printPictureOf, printRehearsalOf}
+use Rattle.printed.specs.Ready.{Lines}
+use Rattle.printed.proofs.Puts.{put-same, put-both, put-length}
+use Rattle.printed.proofs.Texts.{printed-none, printed-all, printed-within, printed-settled}
+
+module _ (p : Panel) (number : ℕ) (frame : List ℕ) where
+  -- the test, by what it found
+  pub framed-refused : (number ≡ 0 → ⊥) → true ≡ framed p number frame
+  framed-refused nz = sym (ap (λ (t : Bool). cond t (validPanel p && frameFits p frame) true) (ne-eqb number 0 nz))
+
+  module _ (z : number ≡ 0) where
+    framed-by : framed p number frame ≡ (validPanel p && frameFits p frame)
+    framed-by = ap (λ (t : Bool). cond t (validPanel p && frameFits p frame) true) (eq-eqb number 0 z)
+
+    pub framed-invalid : validPanel p ≡ false → false ≡ framed p number frame
+    framed-invalid v = sym (ap (λ (t : Bool). t && frameFits p frame) v) ∙ sym framed-by
+
+    pub framed-sized : validPanel p ≡ true → {n : ℕ} → n ≡ 8 * p .lines * rowBytes (p .columns) (p .width)
+        → eqb (length frame) n ≡ framed p number frame
+    framed-sized v e = (λ k. sym v k && eqb (length frame) (e k)) ∙ sym framed-by
+
+    module _ (h : framed p number frame ≡ true) where
+      pub framed-panel : Panelled p
+      framed-panel = panelled p (both-left (validPanel p) (frameFits p frame) (sym framed-by ∙ h))
+
+      pub framed-length : length frame ≡ 8 * p .lines * rowBytes (p .columns) (p .width)
+      framed-length =
+          eqb-true (length frame) (8 * p .lines * rowBytes (p .columns) (p .width))
+          (both-right (validPanel p) (frameFits p frame) (sym framed-by ∙ h))
+
+    pub rows-put : {a b : List ℕ} {at e : ℕ} → Put a at (frameLines p frame) b e → Put a at (screenLines p number frame) b e
+    rows-put x = put-same (sym (ap (λ (t : Bool). cond t (frameLines p frame) []) (eq-eqb number 0 z))) x
+
+  pub rows-none : (number ≡ 0 → ⊥) → (a : List ℕ) (at : ℕ) → Put a at (screenLines p number frame) a at
+  rows-none nz a at =
+      put-same (sym (ap (λ (t : Bool). cond t (frameLines p frame) []) (ne-eqb number 0 nz))) (record { holds = refl; ends = omega arith })
+
+-- any line, with the rows behind it
+module _ (p : Panel) (number : ℕ) (frame out line : List ℕ) {t : Bool} (i : t ≡ framed p number frame) where
+  lent-is : (v : Bool) → (t && eqb (length out) 131072) ≡ v → lentScreen p number frame out ≡ v
+  lent-is v h = ap (λ (b : Bool). b && eqb (length out) 131072) (sym i) ∙ h
+
+  pub screen-none : (t && eqb (length out) 131072) ≡ false → printed 0 out ≡ printText (lentScreen p number frame out) (line ++ screenLines p number frame) out
+  screen-none h = printed-none (lentScreen p number frame out) (line ++ screenLines p number frame) out (lent-is false h)
+
+  module _ (h : (t && eqb (length out) 131072) ≡ true) where
+    pub screen-room : length out ≡ 131072
+    screen-room = eqb-true (length out) 131072 (both-right t _ h)
+
+    pub screen-ready : {b : List ℕ} {w : ℕ} → Put out 0 line b w → w ≤ 112 → Lines p number frame b w
+    screen-ready x s = record { framed = sym i ∙ both-left t _ h; behind = s; roomy = put-length x ∙ screen-room }
+
+    pub screen-all : {b c : List ℕ} {w e : ℕ} → Put out 0 line b w → Put b w (screenLines p number frame) c e → e ≤ 131072
+        → printed e c ≡ printText (lentScreen p number frame out) (line ++ screenLines p number frame) out
+    screen-all x y s =
+        printed-all (lentScreen p number frame out) (line ++ screenLines p number frame) out (lent-is true h) (put-both x y)
+        (omega (arith, screen-room))
+
+module _ (p : Panel) (number place : ℕ) (frame out : List ℕ) {b : List ℕ} {w : ℕ} where
+  -- the text stands in its room
+  pub picture-within : printed w b ≡ printPictureOf p number place frame out → w ≤ length b
+  unfolding printPictureOf
+  picture-within h = printed-within (lentScreen p number frame out) (pictureText p number place frame) out h
+
+  pub rehearsal-within : (pairs : ℕ) → printed w b ≡ printRehearsalOf p pairs number place frame out → w ≤ length b
+  unfolding printRehearsalOf
+  rehearsal-within pairs h = printed-within (lentScreen p number frame out) (rehearsalText p pairs number place frame) out h
+
+-- two replies that meet a promise are equal
+pub print-picture-settled : {n k : ℕ} {b c : List ℕ} (p : Panel) (number place : ℕ) (frame out : List ℕ)
+    → printed n b ≡ printPictureOf p number place frame out → printed k c ≡ printPictureOf p number place frame out → (n ≡ k) × (b ≡ c)
+print-picture-settled p number place frame out h k = printed-settled h k
+
+pub print-rehearsal-settled : {n k : ℕ} {b c : List ℕ} (p : Panel) (pairs number place : ℕ) (frame out : List ℕ)
+    → printed n b ≡ printRehearsalOf p pairs number place frame out → printed k c ≡ printRehearsalOf p pairs number place frame out → (n ≡ k) × (b ≡ c)
+print-rehearsal-settled p pairs number place frame out h k = printed-settled h k

@@ -1,0 +1,33 @@
+-- A text printed into a lent room, or nothing.
+use mathlib.Core.Path.{_≡_, ap, sym, subst, _∙_}
+use mathlib.Core.Bool.{Bool, true, false, cond}
+use mathlib.Core.List.{List, _++_}
+use Prim.Native.Nat.{ℕ, _≤_}
+use native.Mathlib.Omega.{arith}
+use lib.ListN.{length, drop, length-append}
+use Rattle.ground.proofs.Tests.{cond-has, settled}
+use Rattle.printed.specs.Put.{Put}
+use Rattle.printed.specs.Printed.{Printed, printed, printText}
+use Rattle.printed.proofs.Puts.{put-start}
+
+module _ (lent : Bool) (text out : List ℕ) where
+  pub printed-none : lent ≡ false → printed 0 out ≡ printText lent text out
+  printed-none h = λ k. cond (sym h k) (printed (length text) (text ++ drop (length text) out)) (printed 0 out)
+
+  pub printed-all : lent ≡ true → {b : List ℕ} {w : ℕ} → Put out 0 text b w → w ≤ length out → printed w b ≡ printText lent text out
+  printed-all h {b} {w} x s =
+      let n : w ≡ length text = omega (arith, x .ends) in
+      (λ k. printed (n k) (put-start x (omega arith) k))
+      ∙ (λ k. cond (sym h k) (printed (length text) (text ++ drop (length text) out)) (printed 0 out))
+
+  -- the text stands in its room
+  pub printed-within : {b : List ℕ} {w : ℕ} → printed w b ≡ printText lent text out → w ≤ length b
+  printed-within h =
+      subst (λ (o : Printed). o .count ≤ length (o .out)) (sym h)
+      (cond-has (λ (o : Printed). o .count ≤ length (o .out)) lent (rw length-append (omega arith)) (omega arith))
+
+-- two replies that meet one promise are equal
+pub printed-settled : {n k : ℕ} {b c : List ℕ} {o : Printed} → printed n b ≡ o → printed k c ≡ o → (n ≡ k) × (b ≡ c)
+printed-settled h k =
+    let e = settled h k in
+    (ap (λ (x : Printed). x .count) e, ap (λ (x : Printed). x .out) e)
