@@ -2,13 +2,14 @@
 use mathlib.Core.Path.{_≡_, refl, ap, sym, subst, _∙_}
 use mathlib.Core.Bool.{Bool, true, false, cond, _&&_, _||_}
 use mathlib.Core.List.{List, [], _∷_, _++_}
+use mathlib.Core.Logic.{⊎-elim}
 use Prim.Native.Nat.{ℕ, zero, suc, _+_, _-_, _*_, _/_, _%_, _≤_, _<_, min}
 use native.Mathlib.Nat.{mul-le-mul, le-trans}
 use native.Mathlib.Numerals.{add-one}
 use native.Mathlib.Decide.{decLt}
 use native.Mathlib.Omega.{arith}
 use lib.Dec.{eqb}
-use lib.ListN.{length, take, drop, replicate, length-append, length-drop, length-replicate, drop-of-length-le, replicate-append-replicate}
+use lib.ListN.{length, take, drop, replicate, length-append, length-drop, length-replicate, drop-of-length-le, replicate-append-replicate, List·getD-eq-default}
 use lib.Seq.{take-all, take-nil}
 use borrow.Author.Tests.{eqb-true, eq-eqb, eqb-false}
 use Rattle.ground.specs.Lists.{build, zeros}
@@ -56,6 +57,19 @@ log-is l {s} {e} i j = go (decLt (length l) 3) (decLt (length l) 16387)
         let a : s ≡ 3 = omega arith in
         let b : e ≡ 16387 = omega arith in
         λ q. take (b q - a q) (drop (a q) l)
+
+-- a valid panel's bytes are all there
+pub panel-whole : (input : List ℕ) {p : Panel} → p ≡ panelIn input → validPanel p ≡ true → 3 ≤ length input
+panel-whole input {p} i v = go (decLt (length input) 3)
+  where
+    wide : 6 ≤ p .width
+    wide = ⊎-elim (λ e. omega arith) (λ e. omega arith) (panelled p v .width)
+
+    go : Dec (length input < 3) → 3 ≤ length input
+    go (yes h) =
+        let e : p .width ≡ 0 = ap (λ (q : Panel). q .width) i ∙ List·getD-eq-default input 0 (omega arith) in
+        absurd (omega (arith, wide))
+    go (no h) = omega arith
 
 -- the input from a place on
 pub rest-is : (l : List ℕ) (head : ℕ) {s : ℕ} → s ≡ min head (length l) → take (length l - s) (drop s l) ≡ drop head l

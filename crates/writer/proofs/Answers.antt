@@ -8,7 +8,7 @@ use native.Mathlib.Decide.{ℕ-discrete}
 use native.Mathlib.Omega.{arith}
 use lib.Dec.{ltb}
 use lib.ListN.{length}
-use lib.Seq.{sets}
+use lib.Seq.{sets, length-sets}
 use borrow.Author.Tests.{lt-ltb, le-ltb, ltb-false}
 use Rattle.ground.proofs.Tests.{settled}
 use Rattle.display.specs.declared.panel.Panel.{Panel}
@@ -124,6 +124,12 @@ module _ (p : Panel) (book : List ℕ) (number : ℕ) (room : List ℕ) where
       go : Dec (checkedOf p book number .number ≡ 0) → Streamed p book number room r after
       go (yes z) = streamed z (ltb (length room) (2 * total p book number refl z)) refl (h ∙ sym (by-room p book number refl z room (ltb (length room) (2 * total p book number refl z)) refl)) n
       go (no nz) = absurd (nz (sym (ap (λ (o : Wrote). o .written .number) (h ∙ sym (write-refused p book number refl room nz))) ∙ n))
+
+  -- the stream stands in the room
+  pub write-within : {r : Written} {after : List ℕ} → wroteAll r after ≡ writeOf p book number room → r .number ≡ 0 → 2 * r .pairs ≤ length after
+  write-within {r} {after} h n =
+      let t = write-accepted h n in
+      omega (arith, t .fits, ap length (t .holds) ∙ length-sets room 0 (logOf (streamOf p (t .os))))
 
 -- two replies that meet the promise of `write` are equal
 pub write-settled : {x y : Written} {a b : List ℕ} (p : Panel) (book : List ℕ) (number : ℕ) (room : List ℕ)
