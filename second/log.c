@@ -1,6 +1,7 @@
 /* The log program of document 01: raw bytes in, first line, answers and frame out. */
 #include <stdio.h>
 
+#include "dots.h"
 #include "second.h"
 
 #define PANEL_BYTES 3
@@ -18,7 +19,7 @@ int main(void)
     struct second_panel panel;
     struct second_registers registers;
     struct second_run_reply reply;
-    unsigned code, v, x, row;
+    unsigned code, v;
     unsigned long log_length = 0, answer;
     size_t length = fread(input, 1, sizeof input, stdin);
 
@@ -42,13 +43,7 @@ int main(void)
         for (answer = 0; answer < reply.answers; answer++) printf("%02X\n", answers[answer]);
         second_frame(&panel, &registers, memory, SECOND_MEMORY_LENGTH, rom, SECOND_ROM_LENGTH,
                      frame, second_frame_length(&panel));
-        for (row = 0; row < 8 * panel.lines; row++) {
-            for (x = 0; x < panel.columns * panel.width; x++) {
-                unsigned char packed = frame[row * second_row_length(&panel) + x / 8];
-                putchar((packed >> (7 - x % 8)) & 1 ? '#' : '.');
-            }
-            putchar('\n');
-        }
+        print_dots(&panel, frame);
     }
     if (fflush(stdout) != 0 || ferror(stdout)) {
         fputs("log: standard output cannot be written\n", stderr);

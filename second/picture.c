@@ -1,6 +1,7 @@
 /* picture: C, L, w, a screen's number, the phase and a book in; number, place and the screen's dots out. */
 #include <stdio.h>
 
+#include "dots.h"
 #include "screens.h"
 
 #define HEAD 5
@@ -17,7 +18,7 @@ int main(void)
     static unsigned char frame[FRAME_ROOM];
     struct second_panel panel;
     struct second_picture_reply reply;
-    unsigned code, v, x, row;
+    unsigned code, v;
     unsigned long book_length = 0;
     size_t length = fread(input, 1, sizeof input, stdin);
 
@@ -37,15 +38,7 @@ int main(void)
                            graphic, second_graphic_length(&panel), text, second_text_length(&panel),
                            glyphs, SECOND_GLYPHS_LENGTH, frame, second_frame_length(&panel));
     printf("refusal %u place %lu\n", reply.number, reply.place);
-    if (reply.number == 0) {
-        for (row = 0; row < 8 * panel.lines; row++) {
-            for (x = 0; x < panel.columns * panel.width; x++) {
-                unsigned char packed = frame[row * second_row_length(&panel) + x / 8];
-                putchar((packed >> (7 - x % 8)) & 1 ? '#' : '.');
-            }
-            putchar('\n');
-        }
-    }
+    if (reply.number == 0) print_dots(&panel, frame);
     if (fflush(stdout) != 0 || ferror(stdout)) {
         fputs("picture: standard output cannot be written\n", stderr);
         return 1;

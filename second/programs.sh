@@ -1,0 +1,83 @@
+# Sourced by logs and books: proved programs beside second ones, byte for byte. Before that `here` is this folder and `usage` the
+# command with what it takes. The last line is `N passed, M failed`.
+root=$(dirname "$here")
+. "$root/tools/program.sh"
+passed=0
+failed=0
+
+# counted: the last line
+counted() {
+    echo "$passed passed, $failed failed"
+    [ "$failed" = 0 ]
+}
+
+# fail WHY: nothing could be compared
+fail() {
+    echo "$name: $1" >&2
+    echo "0 passed, 1 failed"
+    exit 1
+}
+
+compiler=${CC:-cc}
+command -v "${compiler%% *}" >/dev/null 2>&1 || fail "no C compiler '$compiler'"
+work=$(mktemp -d) || exit 1
+trap 'rm -rf "$work"' EXIT
+
+# compile NAME SOURCE..: a program of this folder
+compile() {
+    program=$1
+    shift
+    # The compiler's name is a list of words.
+    # shellcheck disable=SC2086
+    (cd "$here" && $compiler -std=c99 -O2 -o "$work/$program" "$@") || fail "$program does not compile"
+}
+
+# built PROGRAM: a proved one, which is not built here
+built() {
+    [ -x "$root/target/bin/$1" ] || fail "target/bin/$1 is missing: 'rt check $1' builds it"
+}
+
+# same WHAT PROVED SECOND: both say the same of $work/in, on standard output and on standard error
+same() {
+    run "$2" <"$work/in" >"$work/proved.out" 2>"$work/proved.err"
+    "$work/$3" <"$work/in" >"$work/second.out" 2>"$work/second.err"
+    if cmp -s "$work/proved.out" "$work/second.out" && cmp -s "$work/proved.err" "$work/second.err"; then
+        passed=$((passed + 1))
+    else
+        failed=$((failed + 1))
+        echo "$name: $1 differs between $2 (<) and the second program's $3 (>)"
+        diff "$work/proved.err" "$work/second.err" | head -n 5
+        diff "$work/proved.out" "$work/second.out" | head -n 5
+    fi
+}
+
+# same_cases PROVED SECOND: the fixed cases of a second program
+same_cases() {
+    for file in "$here"/cases/*.case; do
+        of=$(sed -n -e '/^out:$/q' -e 's/^program: //p' "$file")
+        [ "${of:-log}" = "$2" ] || continue
+        "$work/unhex" <"$file" >"$work/in" || fail "$file is no case"
+        same "$(basename "$file")" "$1" "$2"
+    done
+}
+
+# same_random PROVED SECOND KIND COUNT: the random inputs of seeds 1 to COUNT
+same_random() {
+    seed=1
+    while [ "$seed" -le "$4" ]; do
+        "$work/generate" "$3" "$seed" >"$work/in" || fail "generate $3 $seed"
+        same "$3 $seed" "$1" "$2"
+        seed=$((seed + 1))
+    done
+}
+
+# one_count [COUNT]: how many random inputs, 200 where it is not said
+one_count() {
+    [ $# -le 1 ] || misused
+    count=${1:-200}
+    case $count in *[!0-9]*) misused ;; esac
+}
+
+find_kit
+compile unhex unhex.c
+compile generate generate_main.c generate_book.c generate.c
