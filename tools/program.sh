@@ -49,7 +49,8 @@ build() {
     lock=$root/target/building
     mkdir -p "$root/target"
     until ln -s $$ "$lock" 2>/dev/null; do
-        kill -0 "$(readlink "$lock")" 2>/dev/null || rm -f "$lock"
+        # a holder that was killed left it behind
+        holder=$(readlink "$lock") && ! kill -0 "$holder" 2>/dev/null && rm -f "$lock"
         sleep 1
     done
     trap 'rm -f "$lock"' EXIT

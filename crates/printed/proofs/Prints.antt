@@ -4,20 +4,20 @@ use mathlib.Core.Bool.{Bool, true, false, cond, _&&_, _||_}
 use mathlib.Core.List.{List, [], _∷_, _++_}
 use mathlib.Core.Logic.{⊎-elim}
 use Prim.Native.Nat.{ℕ, zero, suc, _+_, _-_, _*_, _/_, _%_, _≤_, _<_, min}
-use native.Mathlib.Nat.{mul-le-mul, le-trans}
+use native.Mathlib.Nat.{mul-le-mul}
 use native.Mathlib.Numerals.{add-one}
 use native.Mathlib.Decide.{decLt}
 use native.Mathlib.Omega.{arith}
 use lib.Dec.{eqb}
-use lib.ListN.{length, take, drop, replicate, length-append, length-drop, length-replicate, drop-of-length-le, replicate-append-replicate, List·getD-eq-default}
+use lib.ListN.{length, take, drop, replicate, length-drop, length-replicate, drop-of-length-le, replicate-append-replicate, List·getD-eq-default}
 use lib.Seq.{take-all, take-nil}
 use borrow.Author.Tests.{eqb-true, eq-eqb, eqb-false}
 use Rattle.ground.specs.Lists.{build, zeros}
 use Rattle.ground.specs.Packing.{rowBytes}
 use Rattle.ground.proofs.Lists.{joined-length}
-use Rattle.ground.proofs.Tests.{both, both-left, both-right, cond-has, settled}
+use Rattle.ground.proofs.Tests.{both, both-left, both-right}
 use Rattle.display.specs.State.{validPanel, validRegisters, resetRegisters}
-use Rattle.display.specs.Frame.{frameOf, lentLengths, frameFits, painted, Painted, paintOf, replyOf}
+use Rattle.display.specs.Frame.{frameOf, lentLengths, painted, Painted, paintOf, replyOf}
 use Rattle.display.proofs.Doors.{Panelled, panelled, narrow}
 use Rattle.controller.specs.Types.{Panel, Registers}
 use Rattle.controller.specs.declared.run.Ran.{Ran}
@@ -27,7 +27,7 @@ use Rattle.controller.specs.Ready.{standing}
 use Rattle.controller.proofs.Laws.{sounds, sounds-valid}
 use Rattle.controller.proofs.Splitting.{Kept, run-kept}
 use Rattle.printed.specs.Put.{Put}
-use Rattle.printed.specs.Printed.{panelIn, logIn, characterRow, characters, ranIn, textOf, logText, ranLine, frameLine, frameLines, lentRooms, Printed, printed, printOf}
+use Rattle.printed.specs.Printed.{panelIn, logIn, characterRow, characters, ranIn, textOf, logText, ranLine, frameLine, frameLines, lentRooms, printed, printOf}
 use Rattle.printed.specs.Text.{hexLineAt, hexLines}
 use Rattle.printed.specs.Ready.{Draws, Ready}
 use Rattle.printed.proofs.Puts.{put-same, dot-line-length}

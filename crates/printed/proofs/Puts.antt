@@ -9,7 +9,7 @@ use lib.ListN.{length, getD, take, drop, set, length-append}
 use lib.Seq.{sets, length-sets, sets-eq, take-suc}
 use Rattle.ground.proofs.Lists.{build-length}
 use Rattle.printed.specs.Put.{Put}
-use Rattle.printed.specs.Text.{dotMarkAt, dotLine}
+use Rattle.printed.specs.Text.{dotLine}
 
 sets-append : (xs ys l : List ℕ) (i : ℕ) → sets (sets l i xs) (i + length xs) ys ≡ sets l i (xs ++ ys)
 sets-append [] ys l i = rw add-zero

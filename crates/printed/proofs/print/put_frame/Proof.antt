@@ -1,9 +1,7 @@
 -- `put_frame` meets its contract: past the doors the painting is the frame.
 use mathlib.Core.Path.{ap, _∙_}
-use native.Mathlib.Omega.{arith}
 use Rattle.ground.proofs.Tests.{both-left}
 use Rattle.display.specs.State.{validPanel}
-use Rattle.display.specs.Frame.{painted}
 use Rattle.display.proofs.Doors.{panelled}
 use Rattle.printed.specs.Printed.{frameLines}
 use Rattle.printed.proofs.Puts.{put-same}

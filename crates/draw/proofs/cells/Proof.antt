@@ -1,0 +1,22 @@
+-- `cells` meets its contract.
+use mathlib.Core.Path.{sym, _∙_}
+use native.Mathlib.Omega.{arith}
+use Rattle.picture.proofs.Places.{cells-few}
+use borrow.Author.Needs.{needs}
+use Rattle.draw.proofs.cells.Statement.{statement}
+use Rattle.draw.proofs.cells.Tie as tie
+
+valid-requires : tie.Need-valid-requires
+valid-requires c κs = search needs
+
+mul-result : tie.Need-mul-result
+mul-result c = omega (arith, cells-few (c .before .before .before .args .panel) (sym (c .before .before .valid .ensures) ∙ c .before .if1 .taken))
+
+returns : tie.Need-returns
+returns c = cells-few (c .before .before .before .args .panel) (sym (c .before .before .valid .ensures) ∙ c .before .if1 .taken)
+
+returns-2 : tie.Need-returns-2
+returns-2 c = search needs
+
+pub cells-spec : {M : Type 1} → statement M
+cells-spec = tie.close (tie.spec valid-requires mul-result returns returns-2)

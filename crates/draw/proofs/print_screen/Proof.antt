@@ -1,0 +1,58 @@
+-- `print_screen` meets its contract: the text stands in its room.
+use Rattle.printed.proofs.Screens.{picture-within}
+use borrow.Author.Needs.{needs}
+use Rattle.draw.proofs.print_screen.Statement.{statement}
+use Rattle.draw.proofs.print_screen.Tie as tie
+
+byte-in-requires : tie.Need-byte-in-requires
+byte-in-requires c κs = search needs
+
+cast-number : tie.Need-cast-number
+cast-number c = search needs
+
+byte-in-requires-2 : tie.Need-byte-in-requires-2
+byte-in-requires-2 c κs = search needs
+
+rest-in-requires : tie.Need-rest-in-requires
+rest-in-requires c κs = search needs
+
+draw-requires : tie.Need-draw-requires
+draw-requires c κs = search needs
+
+print-picture-requires : tie.Need-print-picture-requires
+print-picture-requires c κs = search needs
+
+same-length : tie.Need-same-length
+same-length c = search needs
+
+same-length-2 : tie.Need-same-length-2
+same-length-2 c = search needs
+
+same-length-3 : tie.Need-same-length-3
+same-length-3 c = search needs
+
+same-length-4 : tie.Need-same-length-4
+same-length-4 c = search needs
+
+same-length-5 : tie.Need-same-length-5
+same-length-5 c = search needs
+
+returns : tie.Need-returns
+returns c = picture-within _ _ _ _ _ (c .before .before .print-picture .ensures)
+
+pub print-screen-spec : {M : Type 1} → statement M
+print-screen-spec =
+    tie.close
+    (tie.spec
+    byte-in-requires
+    cast-number
+    byte-in-requires-2
+    rest-in-requires
+    draw-requires
+    print-picture-requires
+    same-length
+    same-length-2
+    same-length-3
+    same-length-4
+    same-length-5
+    returns)
