@@ -11,6 +11,7 @@ use printed::fill::fill_characters;
 use printed::input::byte_in;
 use printed::input::panel_in;
 use printed::input::rest_in;
+use printed::screen::frame_bytes;
 use printed::screen::print_picture;
 
 // A panel's cells; one that is not valid is refused before they count.
@@ -19,17 +20,6 @@ fn cells(panel: Panel) -> usize
 {
     if panel.valid() {
         panel.lines * panel.columns
-    } else {
-        0
-    }
-}
-
-// The bytes of its frame, likewise.
-fn frame_bytes(panel: Panel) -> usize
-    ensures { λ r. ⌜ r ≤ 10240 ⌝ }
-{
-    if panel.valid() {
-        8 * panel.lines * ((panel.columns * panel.width + 7) / 8)
     } else {
         0
     }

@@ -15,10 +15,19 @@ use Rattle.display.proofs.Doors.{Panelled, panelled}
 use Rattle.controller.specs.Types.{Panel}
 use Rattle.printed.specs.Put.{Put}
 use Rattle.printed.specs.Printed.{frameLines, printed, printText}
-use Rattle.printed.specs.Screen.{screenLines, pictureText, rehearsalText, framed, lentScreen, printPictureOf, printRehearsalOf}
+use Rattle.printed.specs.Screen.{frameBytes, screenLines, pictureText, rehearsalText, framed, lentScreen, printPictureOf, printRehearsalOf}
 use Rattle.printed.specs.Ready.{Lines}
+use Rattle.printed.proofs.Prints.{frame-few}
 use Rattle.printed.proofs.Puts.{put-same, put-both, put-length}
 use Rattle.printed.proofs.Texts.{printed-none, printed-all, printed-within, printed-settled}
+
+-- the bytes of a frame, and that they are few
+pub frame-bytes-valid : (p : Panel) → validPanel p ≡ true → {n : ℕ} → n ≡ 8 * p .lines * rowBytes (p .columns) (p .width) → (n ≡ frameBytes p) × (n ≤ 10240)
+frame-bytes-valid p v e =
+    (e ∙ sym (ap (λ (t : Bool). cond t (8 * p .lines * rowBytes (p .columns) (p .width)) 0) v), omega (arith, frame-few p (panelled p v)))
+
+pub frame-bytes-invalid : (p : Panel) → validPanel p ≡ false → (0 ≡ frameBytes p) × (0 ≤ 10240)
+frame-bytes-invalid p v = (sym (ap (λ (t : Bool). cond t (8 * p .lines * rowBytes (p .columns) (p .width)) 0) v), omega arith)
 
 module _ (p : Panel) (number : ℕ) (frame : List ℕ) where
   -- the test, by what it found

@@ -38,7 +38,7 @@ slice-relend-prefix-print-screen-3 : tie.Need-slice-relend-prefix-print-screen-3
 slice-relend-prefix-print-screen-3 c = search needs
 
 slice-aggregate-print-screen-3 : tie.Need-slice-aggregate-print-screen-3
-slice-aggregate-print-screen-3 c = sym (length-take-le (c .before .before .before .before .before .before .before .before .before .frame-bytes .result) (c .before .before .before .before .before .before .before .before .before .before .before .before .before .before .before .before .before .before .before .args .frame .now) (omega (arith, c .before .before .before .before .before .before .before .before .before .frame-bytes .ensures, c .before .before .before .before .before .before .before .before .before .before .before .before .before .before .before .before .before .before .before .pre)))
+slice-aggregate-print-screen-3 c = sym (length-take-le (c .before .before .before .before .before .before .before .before .before .frame-bytes .result) (c .before .before .before .before .before .before .before .before .before .before .before .before .before .before .before .before .before .before .before .args .frame .now) (omega (arith, c .before .before .before .before .before .before .before .before .before .frame-bytes .ensures .1, c .before .before .before .before .before .before .before .before .before .before .before .before .before .before .before .before .before .before .before .pre)))
 
 print-screen-requires : tie.Need-print-screen-requires
 print-screen-requires c κs = search needs
