@@ -81,12 +81,6 @@ fn main() {
     let mut rom = [0u8; 1024];
     let mut frame = [0u8; 10240];
     let mut out = [0u8; 131072];
-    let count = answer(
-        &input[..got],
-        &mut memory,
-        &mut rom,
-        &mut frame,
-        &mut out,
-    );
+    let count = answer(&input[..got], &mut memory, &mut rom, &mut frame, &mut out);
     io::write_all(STDOUT_FILENO, &out[..count]);
 }

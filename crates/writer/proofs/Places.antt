@@ -47,3 +47,6 @@ module _ (p : Panel) (v : validPanel p ≡ true) where
 
   pub bit-few : (x : ℕ) → dotBit p x < 8
   bit-few x = omega (arith, some-width, narrow (panelled p v))
+
+  pub rest-small : (x : ℕ) → x % p .width < 8
+  rest-small x = omega (arith, rest-few x, some-width, narrow (panelled p v))

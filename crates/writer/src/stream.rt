@@ -70,7 +70,9 @@ fn dot_code(panel: Panel, x: usize, on: bool) -> u8
     requires { ⌜ validPanel panel ≡ true ⌝ }
     ensures { λ r. ⌜ r ≡ cond on 0xf8 0xf0 + dotBit panel x ⌝ }
 {
-    let bit = (panel.width - 1 - x % panel.width) as u8;
+    let from_left = x % panel.width;
+    let from_right = panel.width - 1 - from_left;
+    let bit = from_right as u8;
     if on { 0xf8 + bit } else { 0xf0 + bit }
 }
 

@@ -3,28 +3,28 @@ use mathlib.Core.Path.{ap, sym}
 use mathlib.Core.Bool.{Bool, cond}
 use Prim.Native.Nat.{_+_}
 use Rattle.book.specs.Operation.{dotBit}
-use Rattle.writer.proofs.Places.{some-width, rest-few, bit-few}
+use Rattle.writer.proofs.Places.{some-width, rest-few, bit-few, rest-small}
 use native.Mathlib.Omega.{arith}
 use Rattle.writer.proofs.stream.dot_code.Statement.{statement}
 use Rattle.writer.proofs.stream.dot_code.Tie as tie
 
-sub-bit : tie.Need-sub-bit
-sub-bit c = some-width (c .before .args .panel) (c .before .pre)
+rem-from-left : tie.Need-rem-from-left
+rem-from-left c = some-width (c .before .args .panel) (c .before .pre)
 
-rem-bit : tie.Need-rem-bit
-rem-bit c = some-width (c .before .before .args .panel) (c .before .before .pre)
+sub-from-right : tie.Need-sub-from-right
+sub-from-right c = some-width (c .before .before .args .panel) (c .before .before .pre)
 
-sub-bit-2 : tie.Need-sub-bit-2
-sub-bit-2 c = rest-few (c .before .before .args .panel) (c .before .before .pre) (c .before .before .args .x)
+sub-from-right-2 : tie.Need-sub-from-right-2
+sub-from-right-2 c = rest-few (c .before .before .args .panel) (c .before .before .pre) (c .before .before .args .x)
 
 cast-bit : tie.Need-cast-bit
-cast-bit c = omega (arith, bit-few (c .before .before .args .panel) (c .before .before .pre) (c .before .before .args .x))
+cast-bit c = let s = c .before .before in omega (arith, bit-few (s .args .panel) (s .pre) (s .args .x), rest-small (s .args .panel) (s .pre) (s .args .x))
 
 add-result : tie.Need-add-result
-add-result c = omega (arith, bit-few (c .before .before .before .args .panel) (c .before .before .before .pre) (c .before .before .before .args .x))
+add-result c = let s = c .before .before .before in omega (arith, bit-few (s .args .panel) (s .pre) (s .args .x), rest-small (s .args .panel) (s .pre) (s .args .x))
 
 add-result-2 : tie.Need-add-result-2
-add-result-2 c = omega (arith, bit-few (c .before .before .before .args .panel) (c .before .before .before .pre) (c .before .before .before .args .x))
+add-result-2 c = let s = c .before .before .before in omega (arith, bit-few (s .args .panel) (s .pre) (s .args .x), rest-small (s .args .panel) (s .pre) (s .args .x))
 
 returns : tie.Need-returns
 returns c = let a = c .before .before .before .args in ap (λ (t : Bool). cond t 0xf8 0xf0 + dotBit (a .panel) (a .x)) (sym (c .if1 .taken))
@@ -35,4 +35,12 @@ returns-2 c = let a = c .before .before .before .args in ap (λ (t : Bool). cond
 pub dot-code-spec : {M : Type 1} → statement M
 dot-code-spec =
     tie.close
-    (tie.spec sub-bit rem-bit sub-bit-2 cast-bit add-result add-result-2 returns returns-2)
+    (tie.spec
+    rem-from-left
+    sub-from-right
+    sub-from-right-2
+    cast-bit
+    add-result
+    add-result-2
+    returns
+    returns-2)
