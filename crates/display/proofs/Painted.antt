@@ -39,6 +39,13 @@ unfolding frameOf
 frame-cong p d e mem memory rom w h =
     frames.frame-cong (p .columns) (p .lines) (p .width) w (cellByte p d mem rom) (cellByte p e memory rom) h
 
+-- cells that follow a rule make the rule's frame
+pub frame-by-rule : (p : Panel) (d : Display) (mem rom : List ℕ) (cell : ℕ → ℕ → ℕ) → 0 < p .width
+    → ((r c : ℕ) → r < 8 * p .lines → c < p .columns → cellByte p d mem rom r c ≡ cell r c)
+    → frameOf p d mem rom ≡ frameFrom (p .columns) (p .lines) (p .width) cell
+unfolding frameOf
+frame-by-rule p d mem rom cell w h = frames.frame-cong (p .columns) (p .lines) (p .width) w (cellByte p d mem rom) cell h
+
 -- of valid registers a painting reads the display group alone
 pub paint-by-display : (p : Panel) (r s : Registers) (mem rom frame : List ℕ) → validRegisters r ≡ true → validRegisters s ≡ true
     → r .display ≡ s .display → paintOf p r mem rom frame ≡ paintOf p s mem rom frame

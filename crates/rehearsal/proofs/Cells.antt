@@ -8,14 +8,13 @@ use native.Mathlib.Omega.{arith}
 use lib.Dec.{ltb}
 use lib.ListN.{length, getD}
 use borrow.Author.Tests.{ltb-false}
-use Rattle.ground.specs.Packing.{frameFrom}
-use Rattle.ground.proofs.Frames.{frame-cong}
 use Rattle.display.specs.declared.panel.Panel.{Panel}
 use Rattle.display.specs.declared.registers.Cursor.{Cursor}
 use Rattle.display.specs.declared.registers.Display.{Display}
 use Rattle.display.specs.State.{validPanel}
 use Rattle.display.specs.Displayed.{addressOf, combined, cursorLit, cursorCovers, cellByte}
 use Rattle.display.specs.Frame.{frameOf}
+use Rattle.display.proofs.Painted.{frame-by-rule}
 use Rattle.display.proofs.Plain.{plain, plainGlyph, cell-plain}
 use Rattle.controller.specs.Effect.{withPhase}
 use Rattle.writer.proofs.Places.{cells-few, some-width}
@@ -71,6 +70,5 @@ module _ (p : Panel) (v : validPanel p ≡ true) (g h : List ℕ) (a : Picture) 
         (graphic-same r c i j t % w)))
 
     pub frame-same : frameOf p (withPhase (displayFor p d a) phase) mem rom ≡ pictureFrame p rom a phase
-    unfolding frameOf pictureFrame
-    frame-same =
-        frame-cong (p .columns) (p .lines) (p .width) (some-width p v) (cellByte p (withPhase (displayFor p d a) phase) mem rom) (pictureCell p rom a phase) cell-same
+    unfolding pictureFrame
+    frame-same = frame-by-rule p (withPhase (displayFor p d a) phase) mem rom (pictureCell p rom a phase) (some-width p v) cell-same
