@@ -14,11 +14,11 @@ use printed::screen::frame_bytes;
 use printed::screen::print_rehearsal;
 use rehearsal::rehearse::rehearse;
 
-// Room for 2,097,152 pairs. The `ensures` gives only the length.
-fn empty_room() -> [u8; 4194304]
-    ensures { λ r. ⌜ 4194304 ≡ length r ⌝ }
+// Room for 1,048,576 pairs. The `ensures` gives only the length.
+fn empty_room() -> [u8; 2097152]
+    ensures { λ r. ⌜ 2097152 ≡ length r ⌝ }
 {
-    [0; 4194304]
+    [0; 2097152]
 }
 
 // A screen rehearsed on these buffers, as text.

@@ -21,11 +21,11 @@ fn refuse(panel: Panel, written: Written) {
     io::write_all(STDERR_FILENO, &line[..count]);
 }
 
-// Room for 2,097,152 pairs. The `ensures` gives only the length.
-fn empty_room() -> [u8; 4194304]
-    ensures { λ r. ⌜ 4194304 ≡ length r ⌝ }
+// Room for 1,048,576 pairs. The `ensures` gives only the length.
+fn empty_room() -> [u8; 2097152]
+    ensures { λ r. ⌜ 2097152 ≡ length r ⌝ }
 {
-    [0; 4194304]
+    [0; 2097152]
 }
 
 // A screen's stream behind its panel.
