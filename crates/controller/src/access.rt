@@ -30,9 +30,9 @@ use ground::bytes::with_bit;
 
 // A number and place, the registers after, and the byte read or 0.
 pub struct Acted {
-    pub number: u8,
-    pub place: usize,
     pub registers: Registers,
+    pub place: usize,
+    pub number: u8,
     pub answer: u8,
 }
 

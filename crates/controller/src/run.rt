@@ -24,11 +24,11 @@ pub struct Ran {
     pub registers: Registers,
 }
 
-// One pair of a run: a number, the registers after, the answers written so far.
+// One pair of a run: the registers after, the answers so far, a number. The registers come first: a copy then begins where they were stored.
 pub(crate) struct Turned {
-    pub number: u8,
     pub registers: Registers,
     pub given: usize,
+    pub number: u8,
 }
 
 // A pair that is not taken.
