@@ -1,10 +1,10 @@
 -- Planes at their homes with what lies between them, and what a store into one of them does.
-use mathlib.Core.Path.{_≡_, refl, sym, ap, _∙_}
-use mathlib.Core.List.{List, [], _∷_, _++_}
+use mathlib.Core.Path.{_≡_, ap, _∙_}
+use mathlib.Core.List.{List, _++_}
 use Prim.Native.Nat.{ℕ, _+_, _-_, _≤_, _<_}
 use native.Mathlib.Omega.{arith}
 use lib.ListN.{length, getD, set, List·getD-append}
-use lib.Seq.{sets, set-append-left, length-sets, getD-append-add}
+use lib.Seq.{sets, set-append-left, getD-append-add}
 use Rattle.ground.specs.Lists.{stored}
 use Rattle.ground.proofs.Stores.{stored-sets, sets-before, sets-behind, sets-all}
 

@@ -1,15 +1,14 @@
 -- The theorem of demand 3.
 use mathlib.Core.Path.{_≡_, refl, sym, ap, subst, _∙_}
 use mathlib.Core.Bool.{Bool, true, false, _&&_, _||_, true≢false}
-use mathlib.Core.List.{List, [], _∷_, _++_}
+use mathlib.Core.List.{List, [], _∷_}
 use mathlib.Core.Logic.{_⊎_, inl, inr}
 use Prim.Native.Nat.{ℕ, suc, _+_, _*_, _<_, _≤_}
 use native.Mathlib.Omega.{arith}
-use native.Mathlib.Decide.{decLt, decLe}
 use lib.Dec.{ltb, leb}
 use lib.ListN.{length, getD, set, take, drop}
 use lib.Seq.{sets, sets-eq, length-sets, take-at, getD-set-other}
-use borrow.Author.Tests.{ltb-false, leb-false, lt-ltb, le-leb, eq-eqb}
+use borrow.Author.Tests.{ltb-false, leb-false, eq-eqb}
 use Rattle.ground.proofs.Tests.{both}
 use Rattle.display.specs.declared.panel.Panel.{Panel}
 use Rattle.display.specs.declared.registers.Registers.{Registers}
@@ -17,7 +16,7 @@ use Rattle.display.specs.State.{validRegisters}
 use Rattle.controller.specs.Run.{logOf, RanAll, ranAll, runOf}
 use Rattle.controller.proofs.Logs.{log-length, run-takes, takes-valid}
 use Rattle.book.specs.Operation.{Operation}
-use Rattle.book.specs.Screen.{screen, screenOf}
+use Rattle.book.specs.Screen.{screenOf}
 use Rattle.writer.specs.declared.written.Written.{Written}
 use Rattle.writer.specs.Stream.{streamOf}
 use Rattle.writer.specs.Put.{operationsIn}

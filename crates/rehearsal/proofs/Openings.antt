@@ -1,7 +1,7 @@
 -- Any memory is planes at their homes; the opening, from any state, leaves the machine that shows the blank picture; a whole stream the one that shows its picture.
 use mathlib.Core.Path.{_≡_, refl, sym, ap, subst, _∙_}
-use mathlib.Core.Bool.{Bool, true, false}
-use mathlib.Core.List.{List, [], _∷_, _++_}
+use mathlib.Core.Bool.{true}
+use mathlib.Core.List.{List, _++_}
 use Prim.Native.Nat.{ℕ, _+_, _-_, _*_, _≤_, _<_}
 use native.Mathlib.Nat.{mul-assoc}
 use native.Mathlib.Omega.{arith}
@@ -23,9 +23,9 @@ use Rattle.book.specs.Screen.{screen, askedOf, screenIn, screenOf}
 use Rattle.writer.specs.Stream.{block, setUp, opening, bodyPairs, streamOf}
 use Rattle.writer.proofs.Places.{cells-few}
 use Rattle.picture.specs.declared.cursor.Laid.the-variants.{Nowhere}
-use Rattle.picture.specs.Picture.{Picture, blank, withPlanes, appliedAll, pictureOf}
+use Rattle.picture.specs.Picture.{Picture, blank, withPlanes, pictureOf}
 use Rattle.rehearsal.proofs.Areas.{laid}
-use Rattle.rehearsal.proofs.Simulated.{displayFor, machineFor, Shape, shape-planes, Simulates, sim-both, sim-graphic, sim-codes, sim-glyphs, sim-body}
+use Rattle.rehearsal.proofs.Simulated.{displayFor, machineFor, Shape, Simulates, sim-both, sim-graphic, sim-codes, sim-glyphs, sim-body}
 
 -- the lengths of the graphic and the text plane
 unfoldable pub graphicBytes : Panel → ℕ

@@ -1,6 +1,6 @@
 -- What rehearsing a screen answers, from what writing, running and painting answered.
 use mathlib.Core.Path.{_≡_, refl, sym, ap, subst, _∙_}
-use mathlib.Core.Bool.{Bool, true, false, not, cond, _&&_}
+use mathlib.Core.Bool.{Bool, true, false, cond, _&&_}
 use mathlib.Core.List.{List, []}
 use Prim.Native.Nat.{ℕ, _*_, _<_, _≤_}
 use native.Mathlib.Nat.{mul-le-mul}
@@ -15,7 +15,7 @@ use Rattle.display.specs.declared.panel.Panel.{Panel}
 use Rattle.display.specs.declared.registers.Registers.{Registers}
 use Rattle.display.specs.declared.reply.Reply.{Reply}
 use Rattle.display.specs.State.{validPanel, validRegisters}
-use Rattle.display.specs.Frame.{lentLengths, frameFits, frameOf, replyOf, Painted, painted, paintOf}
+use Rattle.display.specs.Frame.{lentLengths, frameFits, Painted, painted, paintOf}
 use Rattle.display.proofs.Doors.{panelled, narrow, painting-0}
 use Rattle.controller.specs.declared.run.Ran.{Ran}
 use Rattle.controller.specs.Run.{logOf, RanAll, ranAll, runOf}
@@ -29,7 +29,7 @@ use Rattle.writer.proofs.Lengths.{stream-length}
 use Rattle.writer.proofs.Answers.{Streamed, write-accepted}
 use Rattle.picture.specs.Picture.{pictureOf, pictureFrame}
 use Rattle.rehearsal.specs.declared.rehearse.Rehearsed.{Rehearsed}
-use Rattle.rehearsal.specs.Demand3.{inAreas, holding, Shows}
+use Rattle.rehearsal.specs.Demand3.{holding, Shows}
 use Rattle.rehearsal.specs.Rehearsed.{Rehearsal, rehearsedAll, refusedWith, refusal, shownOf, rehearseScreen, rehearseOf, Outright}
 use Rattle.rehearsal.proofs.Demand3.{holding-length, shows, registers-then}
 

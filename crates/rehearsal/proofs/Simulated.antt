@@ -1,7 +1,7 @@
 -- The machine that shows a picture, and each operation's pairs against the picture's operation.
-use mathlib.Core.Path.{_≡_, refl, sym, ap, ap₂, subst, _∙_}
+use mathlib.Core.Path.{_≡_, refl, ap, subst, _∙_}
 use mathlib.Core.Bool.{Bool, true, false, cond}
-use mathlib.Core.List.{List, [], _∷_, _++_}
+use mathlib.Core.List.{List, [], _++_}
 use Prim.Native.Nat.{ℕ, zero, suc, _+_, _-_, _*_, _/_, _%_, _≤_, _<_}
 use native.Mathlib.Nat.{mul-le-mul-right, div-lt-iff-lt-mul}
 use native.Mathlib.Omega.{arith}
@@ -24,12 +24,12 @@ use Rattle.codes.specs.declared.command.Target.the-variants as target
 use Rattle.codes.specs.declared.command.Command.the-variants.{Mode}
 use Rattle.codes.specs.declared.decode.Decoded.the-variants.{Defined}
 use Rattle.codes.proofs.Computed.{decode-height, decode-bit, decode-cursor}
-use Rattle.controller.specs.Access.{Pair, datum, code, Machine, stepOf}
+use Rattle.controller.specs.Access.{Pair, Machine, stepOf}
 use Rattle.controller.proofs.Takes.{Takes, takes-none, takes-both, resting, behindBytes, word-taken, mode-taken, show-taken, height-taken, bit-taken, block-taken}
 use Rattle.book.specs.declared.operation.Placed.{Placed}
 use Rattle.book.specs.declared.operation.Placed.the-variants.{Text, Rectangle, Dot, Glyph, Cursor as Placed-Cursor, Combine}
-use Rattle.book.specs.Operation.{Operation, text, rectangle, dot, glyph, cursor, combine, operationOf, dotByte, dotBit}
-use Rattle.book.specs.Range.{TextRange, RectangleRange, DotRange, GlyphRange, CursorRange, CombineRange, InRange, ByteSized, FoundOperation}
+use Rattle.book.specs.Operation.{Operation, dot, cursor, combine, operationOf, dotByte, dotBit}
+use Rattle.book.specs.Range.{DotRange, CursorRange, InRange, ByteSized}
 use Rattle.book.specs.Screen.{screen, operationsFrom}
 use Rattle.book.proofs.Walking.{walk-all}
 use Rattle.writer.specs.Stream.{pointTo, block, rowBlocks, combinationCode, operationPairs, bodyPairs}
