@@ -1,5 +1,5 @@
 -- A slice that is filled from the front by a rule of the index: what any loop that writes f 0, f 1, .. in order keeps.
-use mathlib.Core.Path.{_≡_, refl, ap, _∙_}
+use mathlib.Core.Path.{_≡_, refl, ap, subst, _∙_}
 use mathlib.Core.List.{List, _++_}
 use Prim.Native.Nat.{ℕ, zero, _+_, _<_, _≤_}
 use native.Mathlib.Omega.{arith}
@@ -27,3 +27,12 @@ module _ (f : ℕ → ℕ) (l₀ : List ℕ) where
     at-end m e h =
         let i : n ≡ m = omega (arith, k .inside) in
         k .holds ∙ filled-all n f l₀ h ∙ ap (λ (x : ℕ). build x f) i
+
+  -- three at once
+  pub three-more : {l : List ℕ} {n m : ℕ} → Filled f l₀ l n → n + 2 < length l₀ → n + 3 ≡ m → {u v w : ℕ} → u ≡ f n → v ≡ f (n + 1) → w ≡ f (n + 2)
+      → Filled f l₀ (set (set (set l n u) (n + 1) v) (n + 2) w) m
+  three-more {l} {n} {m} k h i {u} {v} {w} a b c =
+      let two : n + 1 + 1 ≡ n + 2 = omega arith in
+      let k2 : Filled f l₀ (set (set l n u) (n + 1) v) (n + 2) =
+      subst (λ (x : ℕ). Filled f l₀ (set (set l n u) (n + 1) v) x) two (one-more (one-more k (omega arith) a) (omega arith) b) in
+      subst (λ (x : ℕ). Filled f l₀ (set (set (set l n u) (n + 1) v) (n + 2) w) x) (omega arith) (one-more k2 (omega arith) c)

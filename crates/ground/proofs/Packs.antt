@@ -1,17 +1,17 @@
--- Rows whose cells stand in a list: their dots and bytes, and what packing them answers.
+-- Rows whose cells stand in a list: their bytes, and what packing them answers.
 use mathlib.Core.Path.{_≡_, refl, ap, sym, _∙_}
 use mathlib.Core.Bool.{Bool, true, false, cond, _||_}
 use mathlib.Core.Logic.{_⊎_, inl, inr, ⊎-elim}
 use mathlib.Core.List.{List}
-use Prim.Native.Nat.{ℕ, _-_, _*_, _/_, _%_, _^_, _<_, _≤_}
-use native.Mathlib.Nat.{mul-le-mul, mod-lt, div-lt-iff-lt-mul}
+use Prim.Native.Nat.{ℕ, _*_, _<_, _≤_}
+use native.Mathlib.Nat.{mul-le-mul}
 use native.Mathlib.Omega.{arith}
 use lib.Dec.{leb, eqb}
 use lib.ListN.{length, getD}
 use borrow.Author.Tests.{leb-true, eqb-true, le-leb, eq-eqb, ne-eqb}
 use Rattle.ground.specs.Lists.{build}
 use Rattle.ground.specs.Packing.{packed, rowBytes, rowFrom, dotIn, rowIn, packs, Packable, packOf}
-use Rattle.ground.proofs.Packing.{dot-lt, dot-in, dot-out, row-cong}
+use Rattle.ground.proofs.Packing.{row-cong}
 use Rattle.ground.proofs.Tests.{both, both-left, both-right, either, settled}
 
 module _ {w : ℕ} {cells : List ℕ} (k : Packable w cells) where
@@ -21,28 +21,7 @@ module _ {w : ℕ} {cells : List ℕ} (k : Packable w cells) where
   pub dots-few : length cells * w ≤ 640
   dots-few = mul-le-mul {n₂ = 80} {m₂ = 8} (k .few) (wide .1)
 
-  pub bytes-few : rowBytes (length cells) w ≤ 80
-  bytes-few = omega (arith, dots-few)
-
-  pub bit-inside : (x : ℕ) → x % w ≤ w - 1
-  bit-inside x = let some : 0 < w = omega (arith, wide) in omega (arith, mod-lt x some)
-
-  pub cell-inside : (x : ℕ) → x < length cells * w → x / w < length cells
-  cell-inside x h = let some : 0 < w = omega (arith, wide) in div-lt-iff-lt-mul some .1 h
-
 module _ (w : ℕ) (cells : List ℕ) where
-  pub dot-small : (x : ℕ) → dotIn w cells x < 2
-  unfolding dotIn
-  dot-small x = dot-lt (length cells) w (λ c. getD cells c 0) x
-
-  pub dot-past : (x : ℕ) → length cells * w ≤ x → 0 ≡ dotIn w cells x
-  unfolding dotIn
-  dot-past x h = sym (dot-out (length cells) w (λ c. getD cells c 0) x h)
-
-  pub dot-of-cell : (x : ℕ) → x < length cells * w → getD cells (x / w) 0 / 2 ^ (w - 1 - x % w) % 2 ≡ dotIn w cells x
-  unfolding dotIn
-  dot-of-cell x h = dot-in (length cells) w (λ c. getD cells c 0) x h refl
-
   -- byte j of the row
   abbrev pub byteIn : ℕ → ℕ
   byteIn j = packed (dotIn w cells) (8 * j) 8

@@ -1,31 +1,64 @@
 // A row of cells packed into bytes.
 ghost use mathlib.Core.Path.{_≡_};
-ghost use Prim.Native.Nat.{_*_, _<_};
-ghost use lib.ListN.{length};
+ghost use Prim.Native.Nat.{_*_, _%_, _<_};
+ghost use lib.ListN.{length, getD};
 ghost use Rattle.ground.specs.Packing.{packed, rowBytes, dotIn, rowIn, Packable, packOf};
 
-// Dot x of a row, 0 past the last cell.
-fn dot(width: usize, cells: &[u8], x: usize) -> u8
-    requires { ⌜ Packable width (now cells) ⌝ }
-    ensures { λ r. ⌜ r ≡ dotIn width (now (cells .entry)) x ⌝ }
+// The low six bits of a cell, 0 past the last.
+fn six(cells: &[u8], c: usize) -> u8
+    ensures { λ r. ⌜ r ≡ getD (now (cells .entry)) c 0 % 64 ⌝ }
 {
-    if cells.len() * width <= x {
+    if cells.len() <= c {
         return 0;
     }
-    (cells[x / width] >> (width - 1 - x % width)) % 2
+    cells[c] % 64
 }
 
-// Byte `at` of a row: eight dots, the leftmost in the top bit.
-fn row_byte(width: usize, cells: &[u8], at: usize) -> u8
-    requires { ⌜ Packable width (now cells) ⌝ }
-    requires { ⌜ at < 80 ⌝ }
-    ensures { λ r. ⌜ r ≡ packed (dotIn width (now (cells .entry))) (8 * at) 8 ⌝ }
+// Cells of six dots: the dots held from one cell and the first of the next are a byte. Four cells are three bytes, and none is held; then
+// the rest, padded.
+fn pack_sixes(cells: &[u8], out: &mut [u8])
+    requires { ⌜ Packable 6 (now cells) ⌝ }
+    requires { ⌜ length (now out) ≡ rowBytes (length (now cells)) 6 ⌝ }
+    ensures { λ _. ⌜ now (out .exit) ≡ rowIn 6 (now (cells .entry)) ⌝ }
 {
-    let mut byte: u8 = 0;
-    for d in 0..8 {
-        byte = byte * 2 + dot(width, cells, 8 * at + d);
+    let mut c: usize = 0;
+    let mut at: usize = 0;
+    while c + 4 <= cells.len() {
+        let mut held = cells[c] % 64;
+        let two = cells[c + 1] % 64;
+        let three = cells[c + 2] % 64;
+        let four = cells[c + 3] % 64;
+        out[at] = held * 4 + two / 16;
+        held = two % 16;
+        out[at + 1] = held * 16 + three / 4;
+        held = three % 4;
+        out[at + 2] = held * 64 + four;
+        c += 4;
+        at += 3;
     }
-    byte
+    let one = six(cells, c);
+    let two = six(cells, c + 1);
+    let three = six(cells, c + 2);
+    let end = out.len();
+    if at < end {
+        out[at] = one * 4 + two / 16;
+        if at + 1 < end {
+            out[at + 1] = two % 16 * 16 + three / 4;
+            if at + 2 < end {
+                out[at + 2] = three % 4 * 64;
+            }
+        }
+    }
+}
+
+// A cell of eight dots is a byte.
+fn pack_eights(cells: &[u8], out: &mut [u8])
+    requires { ⌜ length (now out) ≡ rowBytes (length (now cells)) 8 ⌝ }
+    ensures { λ _. ⌜ now (out .exit) ≡ rowIn 8 (now (cells .entry)) ⌝ }
+{
+    for at in 0..out.len() {
+        out[at] = cells[at];
+    }
 }
 
 fn pack_row(width: usize, cells: &[u8], out: &mut [u8])
@@ -33,8 +66,10 @@ fn pack_row(width: usize, cells: &[u8], out: &mut [u8])
     requires { ⌜ length (now out) ≡ rowBytes (length (now cells)) width ⌝ }
     ensures { λ _. ⌜ now (out .exit) ≡ rowIn width (now (cells .entry)) ⌝ }
 {
-    for at in 0..out.len() {
-        out[at] = row_byte(width, cells, at);
+    if width == 6 {
+        pack_sixes(cells, out);
+    } else {
+        pack_eights(cells, out);
     }
 }
 
