@@ -47,7 +47,7 @@ const INHIBIT_BLINKING: Look = Look {
 };
 
 // One row for each of the sixteen attribute codes.
-const LOOKS: [Look; 16] = [
+pub(crate) const LOOKS: [Look; 16] = [
     NORMAL,
     NORMAL,
     NORMAL,

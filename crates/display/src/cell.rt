@@ -1,10 +1,12 @@
 // The byte of a cell in a dot row.
 ghost use mathlib.Core.Path.{_≡_};
+ghost use mathlib.Core.Bool.{cond, not, _&&_};
 ghost use mathlib.Core.Logic.{_⊎_};
 ghost use Prim.Native.Nat.{_-_, _/_, _%_, _^_, _≤_, _<_};
 ghost use lib.ListN.{length, getD};
-ghost use Rattle.display.specs.Displayed.{addressOf, glyphRow, attributed, glyphDots, textDots, graphicDots, mixed, attributeByte, displayedByte, cursorLit, cursorCovers, cellByte};
+ghost use Rattle.display.specs.Displayed.{addressOf, glyphRow, shownAs, attributed, glyphDots, textDots, graphicDots, mixed, attributeByte, displayedByte, cursorLit, cursorCovers};
 ghost use Rattle.display.specs.Drawable.{Drawable};
+use super::attribute::Look;
 use super::attribute::Show;
 use super::attribute::look_at;
 use super::combination::combine;
@@ -16,7 +18,7 @@ use super::registers::Display;
 use super::registers::Plane;
 
 // The low w bits set.
-fn full(width: usize) -> u8
+pub(crate) fn full(width: usize) -> u8
     requires { ⌜ ((width ≡ 6) ⊎ (width ≡ 8)) ⌝ }
     ensures { λ r. ⌜ r ≡ 2 ^ width - 1 ⌝ }
 {
@@ -24,7 +26,7 @@ fn full(width: usize) -> u8
 }
 
 // The low w bits of a byte.
-fn low(width: usize, n: u8) -> u8
+pub(crate) fn low(width: usize, n: u8) -> u8
     requires { ⌜ ((width ≡ 6) ⊎ (width ≡ 8)) ⌝ }
     ensures { λ r. ⌜ r ≡ n % 2 ^ width ⌝ }
 {
@@ -41,7 +43,7 @@ pub(crate) fn address(plane: Plane, row: usize, column: usize) -> u16
     std::num::wrapping_add_u16(start, across)
 }
 
-fn byte_at(mem: &[u8], address: u16) -> u8
+pub(crate) fn byte_at(mem: &[u8], address: u16) -> u8
     requires { ⌜ length (now mem) ≡ 65536 ⌝ }
     ensures { λ r. ⌜ r ≡ getD (now (mem .entry)) address 0 ⌝ }
 {
@@ -50,7 +52,7 @@ fn byte_at(mem: &[u8], address: u16) -> u8
 }
 
 // The glyph row of a code.
-fn glyph(display: Display, mem: &[u8], rom: &[u8], code: u8, v: usize) -> u8
+pub(crate) fn glyph(display: Display, mem: &[u8], rom: &[u8], code: u8, v: usize) -> u8
     requires { ⌜ (length (now mem) ≡ 65536) × (length (now rom) ≡ 1024) × (display .offset < 32) × (v < 8) ⌝ }
     ensures { λ r. ⌜ r ≡ glyphRow display (now (mem .entry)) (now (rom .entry)) code v ⌝ }
 {
@@ -63,13 +65,12 @@ fn glyph(display: Display, mem: &[u8], rom: &[u8], code: u8, v: usize) -> u8
     mem[from]
 }
 
-// The w bits of a glyph row as an attribute byte has them shown.
-fn attribute_shows(width: usize, normal: bool, attribute: u8, dots: u8) -> u8
+// The w bits of a glyph row under a row of the table.
+pub(crate) fn shows(look: Look, width: usize, normal: bool, dots: u8) -> u8
     requires { ⌜ ((width ≡ 6) ⊎ (width ≡ 8)) ⌝ }
     requires { ⌜ dots < 2 ^ width ⌝ }
-    ensures { λ r. ⌜ r ≡ attributed width normal attribute dots ⌝ }
+    ensures { λ r. ⌜ r ≡ cond (look .blinks && not normal) 0 (shownAs (look .shown) width dots) ⌝ }
 {
-    let look = look_at(attribute);
     if look.blinks & !normal {
         return 0;
     }
@@ -79,6 +80,15 @@ fn attribute_shows(width: usize, normal: bool, attribute: u8, dots: u8) -> u8
         Show::Reverse => full(width) - dots,
         Show::Inhibit => 0,
     }
+}
+
+// The w bits of a glyph row as an attribute byte has them shown.
+fn attribute_shows(width: usize, normal: bool, attribute: u8, dots: u8) -> u8
+    requires { ⌜ ((width ≡ 6) ⊎ (width ≡ 8)) ⌝ }
+    requires { ⌜ dots < 2 ^ width ⌝ }
+    ensures { λ r. ⌜ r ≡ attributed width normal attribute dots ⌝ }
+{
+    shows(look_at(attribute), width, normal, dots)
 }
 
 // The w bits of a cell's glyph row.
@@ -148,7 +158,13 @@ fn graphic_dots(panel: Panel, display: Display, mem: &[u8], row: usize, column: 
 }
 
 // The layers that are on, together.
-fn mix(text_on: bool, graphic_on: bool, combination: Combination, text: u8, graphic: u8) -> u8
+pub(crate) fn mix(
+    text_on: bool,
+    graphic_on: bool,
+    combination: Combination,
+    text: u8,
+    graphic: u8,
+) -> u8
     ensures { λ r. ⌜ r ≡ mixed «text_on» «graphic_on» combination text graphic ⌝ }
 {
     if text_on {
@@ -184,14 +200,20 @@ pub(crate) fn shown_byte(
     )
 }
 
-fn cursor_lit(on: bool, blink: bool, normal: bool) -> bool
+pub(crate) fn cursor_lit(on: bool, blink: bool, normal: bool) -> bool
     ensures { λ r. ⌜ r ≡ cursorLit on blink normal ⌝ }
 {
     on & (!blink | normal)
 }
 
 // Whether the cursor covers a cell in its dot row v.
-fn cursor_covers(panel: Panel, cursor: Cursor, line: usize, v: usize, column: usize) -> bool
+pub(crate) fn cursor_covers(
+    panel: Panel,
+    cursor: Cursor,
+    line: usize,
+    v: usize,
+    column: usize,
+) -> bool
     requires { ⌜ cursor .height ≤ 8 ⌝ }
     ensures { λ r. ⌜ r ≡ cursorCovers panel cursor line v column ⌝ }
 {
@@ -202,24 +224,4 @@ fn cursor_covers(panel: Panel, cursor: Cursor, line: usize, v: usize, column: us
         & (x == column)
         & (y == line)
         & (8 - cursor.height as usize <= v)
-}
-
-// The byte of a cell as the frame has it, the cursor laid over.
-pub(crate) fn cell_byte(
-    panel: Panel,
-    display: Display,
-    mem: &[u8],
-    rom: &[u8],
-    row: usize,
-    column: usize,
-) -> u8
-    requires { ⌜ Drawable panel display (now mem) (now rom) ⌝ }
-    ensures { λ r. ⌜ r ≡ cellByte panel display (now (mem .entry)) (now (rom .entry)) row column ⌝ }
-{
-    let lit = cursor_lit(display.shows.cursor, display.shows.blink, display.phase);
-    let covers = cursor_covers(panel, display.cursor, row / 8, row % 8, column);
-    if lit & covers {
-        return full(panel.width);
-    }
-    shown_byte(panel, display, mem, rom, row, column)
 }

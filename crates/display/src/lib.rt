@@ -4,6 +4,7 @@ mod cell;
 pub mod combination;
 pub mod displayed;
 pub mod frame;
+mod layers;
 pub mod panel;
 pub mod registers;
 pub mod reply;

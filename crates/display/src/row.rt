@@ -1,38 +1,43 @@
-// One dot row, painted into its own stretch.
+// One dot row: its layers laid cell by cell, the cursor over them, then packed into the row's own stretch.
 ghost use mathlib.Core.Path.{_≡_};
-ghost use Prim.Native.Nat.{_*_, _<_};
 ghost use lib.ListN.{length};
-ghost use Rattle.ground.specs.Packing.{rowBytes, packed};
-ghost use Rattle.display.specs.Frame.{dotOf, rowOf};
+ghost use Rattle.ground.specs.Lists.{build};
+ghost use Rattle.ground.specs.Packing.{rowBytes};
+ghost use Rattle.display.specs.Displayed.{displayedByte, cellByte};
+ghost use Rattle.display.specs.Frame.{rowOf};
 ghost use Rattle.display.specs.Drawable.{Drawable};
-use super::cell::cell_byte;
+use super::cell::cursor_covers;
+use super::cell::cursor_lit;
+use super::cell::full;
+use super::layers::lay_graphic;
+use super::layers::lay_text;
 use super::panel::Panel;
 use super::registers::Display;
+use ground::cells::pack;
 
-// Dot x of a dot row, 0 past the last cell.
-fn dot(panel: Panel, display: Display, mem: &[u8], rom: &[u8], row: usize, x: usize) -> u8
+// The cursor laid over its cell.
+fn lay_cursor(panel: Panel, display: Display, mem: &[u8], rom: &[u8], row: usize, cells: &mut [u8])
     requires { ⌜ Drawable panel display (now mem) (now rom) ⌝ }
-    ensures { λ r. ⌜ r ≡ dotOf panel display (now (mem .entry)) (now (rom .entry)) row x ⌝ }
+    requires { ⌜ now cells ≡ build (panel .columns) (displayedByte panel display (now mem) (now rom) row) ⌝ }
+    ensures { λ _. ⌜ now (cells .exit) ≡ build (panel .columns) (cellByte panel display (now (mem .entry)) (now (rom .entry)) row) ⌝ }
 {
-    let width = panel.width;
-    if panel.columns * width <= x {
-        return 0;
+    let lit = cursor_lit(display.shows.cursor, display.shows.blink, display.phase);
+    let x = display.cursor.x as usize;
+    let covers = cursor_covers(panel, display.cursor, row / 8, row % 8, x);
+    if lit & covers {
+        cells[x] = full(panel.width);
     }
-    let cell = cell_byte(panel, display, mem, rom, row, x / width);
-    (cell >> (width - 1 - x % width)) % 2
 }
 
-// Byte `at` of a dot row: eight dots, the leftmost in the top bit.
-fn row_byte(panel: Panel, display: Display, mem: &[u8], rom: &[u8], row: usize, at: usize) -> u8
+// The cells of a dot row.
+fn lay(panel: Panel, display: Display, mem: &[u8], rom: &[u8], row: usize, cells: &mut [u8])
     requires { ⌜ Drawable panel display (now mem) (now rom) ⌝ }
-    requires { ⌜ at < 80 ⌝ }
-    ensures { λ r. ⌜ r ≡ packed (dotOf panel display (now (mem .entry)) (now (rom .entry)) row) (8 * at) 8 ⌝ }
+    requires { ⌜ length (now cells) ≡ panel .columns ⌝ }
+    ensures { λ _. ⌜ now (cells .exit) ≡ build (panel .columns) (cellByte panel display (now (mem .entry)) (now (rom .entry)) row) ⌝ }
 {
-    let mut byte: u8 = 0;
-    for d in 0..8 {
-        byte = byte * 2 + dot(panel, display, mem, rom, row, 8 * at + d);
-    }
-    byte
+    lay_text(panel, display, mem, rom, row, cells);
+    lay_graphic(panel, display, mem, rom, row, cells);
+    lay_cursor(panel, display, mem, rom, row, cells);
 }
 
 pub(crate) fn paint_row(
@@ -47,7 +52,8 @@ pub(crate) fn paint_row(
     requires { ⌜ length (now out) ≡ rowBytes (panel .columns) (panel .width) ⌝ }
     ensures { λ _. ⌜ now (out .exit) ≡ rowOf panel display (now (mem .entry)) (now (rom .entry)) row ⌝ }
 {
-    for at in 0..out.len() {
-        out[at] = row_byte(panel, display, mem, rom, row, at);
-    }
+    let columns = panel.columns;
+    let mut cells = [0u8; 80];
+    lay(panel, display, mem, rom, row, &mut cells[..columns]);
+    pack(panel.width, &cells[..columns], out);
 }

@@ -2,12 +2,11 @@
 use mathlib.Core.Path.{_≡_, refl, ap, sym, _∙_}
 use mathlib.Core.Bool.{Bool, true, false, cond}
 use Prim.Native.Nat.{ℕ, zero, suc, _+_, _-_, _*_, _/_, _%_, _^_, _<_, _≤_}
-use native.Mathlib.Nat.{pow-suc, add-suc, mul-assoc, div-lt-iff-lt-mul, lt-of-lt-of-le}
-use native.Mathlib.Numerals.{add-one}
+use native.Mathlib.Nat.{pow-suc, add-suc, mul-assoc, div-lt-iff-lt-mul}
 use native.Mathlib.Decide.{decLt}
 use native.Mathlib.Omega.{arith}
 use lib.Dec.{ltb}
-use lib.Pow.{pow-mono, high}
+use lib.Pow.{high}
 use lib.ListN.{length}
 use borrow.Author.Tests.{lt-ltb, le-ltb}
 use Rattle.ground.specs.Packing.{dotAt, packed, rowBytes, rowFrom}
@@ -25,21 +24,12 @@ module _ (dot : ℕ → ℕ) where
       let k : packed dot s n * 2 ^ suc m ≡ packed dot s n * 2 ^ m * 2 = rw (pow-suc, mul-assoc) in
       rw (add-suc n m, a, k) (omega arith)
 
-  -- one dot more
-  pub packed-more : (s n : ℕ) {b e : ℕ} → b ≡ packed dot s n → e ≡ dot (s + n) → b * 2 + e ≡ packed dot s (n + 1)
-  unfolding packed
-  packed-more s n i j = rw (add-one n, i, j)
-
   module _ (h : (x : ℕ) → dot x < 2) where
     -- n dots fit n bits
     pub packed-lt : (s n : ℕ) → packed dot s n < 2 ^ n
     unfolding packed
     packed-lt s zero = omega arith
     packed-lt s (suc n) = let e : packed dot s n < 2 ^ n = packed-lt s n in rw pow-suc (omega (arith, h (s + n)))
-
-    -- fewer than eight dots leave room for one more
-    pub packed-few : (s n : ℕ) {b : ℕ} → b ≡ packed dot s n → n < 8 → b < 128
-    packed-few s n e l = rw e (lt-of-lt-of-le (packed-lt s n) (pow-mono {j = 7} (omega arith)))
 
     -- a dot out of packed ones
     pub packed-bit : (s n i : ℕ) → i < n → packed dot s n / 2 ^ (n - 1 - i) % 2 ≡ dot (s + i)

@@ -1,57 +1,50 @@
--- `paint_row` meets its contract: byte by byte.
-use Prim.Native.Nat.{_-_}
+-- `paint_row` meets its contract: the cells laid, then packed.
+use mathlib.Core.Path.{sym, _∙_}
 use native.Mathlib.Omega.{arith}
-use mathlib.Core.Path.{_∙_}
-use Rattle.ground.proofs.Filling.{Filled, none-yet, as-long, one-more, at-end}
-use Rattle.display.proofs.Bounds.{wide}
-use Rattle.display.proofs.Dots.{few-bytes, rowByte, row-built}
+use lib.Seq.{length-take-le}
+use Rattle.display.specs.Displayed.{cellByte}
+use Rattle.display.specs.Frame.{rowOf}
+use Rattle.display.proofs.Passes.{front-fits, front-count, front-packed}
+use borrow.Author.Needs.{needs}
 use Rattle.display.proofs.row.paint_row.Statement.{statement}
 use Rattle.display.proofs.row.paint_row.Tie as tie
 
-abbrev Inv-loop : tie.InvT-loop
-Inv-loop panel display mem rom row out₀ at₀ at-end out at =
-    Filled (rowByte panel display mem rom row) out₀ out at
+array-borrow-prefix-cells : tie.Need-array-borrow-prefix-cells
+array-borrow-prefix-cells c = search needs
 
-abbrev μ-loop : tie.MeasureT-loop
-μ-loop panel display mem rom row out₀ at₀ at-end out at = at-end - at
+slice-aggregate-lay : tie.Need-slice-aggregate-lay
+slice-aggregate-lay c = sym (length-take-le _ _ (c .before .before .before .before .pre .0 .columns))
 
-loop-holds : tie.Need-loop-holds Inv-loop μ-loop
-loop-holds c = none-yet _ _
+lay-requires : tie.Need-lay-requires
+lay-requires c κs = let s = c .before .before .before .before in (s .pre .0, length-take-le _ _ (s .pre .0 .columns))
 
-row-byte-requires : tie.Need-row-byte-requires Inv-loop μ-loop
-row-byte-requires c κs =
-    let s = c .before .before .before .before .before in
-    (s .pre .0, omega (arith, s .pre .1, few-bytes _ _ (s .pre .0 .columns) (wide (s .pre .0) .1)))
+array-share-prefix-cells : tie.Need-array-share-prefix-cells
+array-share-prefix-cells c = front-fits _ _ _ _ (c .before .lay .ensures)
 
-slice-write-out : tie.Need-slice-write-out Inv-loop μ-loop
-slice-write-out c = omega (arith, as-long _ _ (c .before .before .loop .inv))
+slice-aggregate-pack : tie.Need-slice-aggregate-pack
+slice-aggregate-pack c = front-count _ _ _ _ (c .before .before .lay .ensures)
 
-add-at : tie.Need-add-at Inv-loop μ-loop
-add-at c = omega (arith, c .before .before .before .before .before .before .good)
+pack-requires : tie.Need-pack-requires
+pack-requires c κs = search needs
 
-loop-less : tie.Need-loop-less Inv-loop μ-loop
-loop-less c = omega arith
+same-length : tie.Need-same-length
+same-length c = search needs
 
-loop-again : tie.Need-loop-again Inv-loop μ-loop
-loop-again c = one-more _ _ (c .before .before .loop .inv) (c .before .loop-test .taken) (c .row-byte .ensures)
-
-same-length : tie.Need-same-length Inv-loop μ-loop
-same-length c = as-long _ _ (c .before .loop .inv)
-
-returns : tie.Need-returns Inv-loop μ-loop
-returns c = at-end _ _ (c .before .loop .inv) _ (c .before .before .before .before .before .pre .1) (c .loop-test .left) ∙ row-built _ _ _ _ _
+returns : tie.Need-returns
+unfolding rowOf
+returns c =
+    let s = c .before .before .before .before .before .before .before .before .before .before .before in
+    front-packed _ _ _ _ (c .before .before .before .before .before .before .lay .ensures) _ _ _ (s .pre .0 .width) (s .pre .0 .columns) (s .pre .1) (c .before .before .pack .ensures)
 
 pub paint-row-spec : {M : Type 1} → statement M
 paint-row-spec =
     tie.close
     (tie.spec
-    Inv-loop
-    μ-loop
-    loop-holds
-    row-byte-requires
-    slice-write-out
-    add-at
-    loop-less
-    loop-again
+    array-borrow-prefix-cells
+    slice-aggregate-lay
+    lay-requires
+    array-share-prefix-cells
+    slice-aggregate-pack
+    pack-requires
     same-length
     returns)

@@ -88,7 +88,7 @@ loop-less : tie.Need-loop-less Inv-loop μ-loop
 loop-less c = let s = c .before .before .before .before .before .before .before .before in let w = c .before .before .before .before .before .loop .inv in omega (arith, w .inside, w .level, sized _ _ w (s .pre .1), s .pre .0 .few)
 
 loop-again : tie.Need-loop-again Inv-loop μ-loop
-loop-again c = walk-on _ _ (c .before .before .before .before .before .loop .inv) (c .before .before .before .before .before .before .before .before .pre .1) (c .before .before .before .before .loop-test .taken) refl refl refl refl
+loop-again c = walk-on _ _ (c .before .before .before .before .before .loop .inv) (c .before .before .before .before .before .before .before .before .pre .1) (omega arith) refl refl refl refl
 
 six-requires : tie.Need-six-requires Inv-loop μ-loop
 six-requires c κs = search needs

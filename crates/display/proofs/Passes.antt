@@ -1,0 +1,244 @@
+-- The cells of a row, layer by layer: glyphs, attributes, graphic, cursor.
+use mathlib.Core.Path.{_≡_, refl, ap, sym, _∙_}
+use mathlib.Core.Bool.{Bool, true, false, cond, not, _&&_, true≢false}
+use mathlib.Core.List.{List, _++_}
+use mathlib.Core.Logic.{_⊎_}
+use Prim.Native.Nat.{ℕ, _+_, _-_, _/_, _%_, _^_, _<_, _≤_}
+use native.Mathlib.Nat.{mod-eq-of-lt}
+use native.Mathlib.Decide.{ℕ-discrete}
+use native.Mathlib.Omega.{arith}
+use lib.Dec.{ltb, leb, eqb}
+use lib.Bits.{bitAnd, bitOr, and-zero-r, or-zero-l, or-zero-r, and-mask}
+use lib.Pow.{ones-sub-lt}
+use lib.ListN.{length, getD, take, drop, set, length-set, length-append}
+use lib.Seq.{getD-append-add, getD-drop, getD-set-same, getD-set-other, ext-getD, take-at}
+use borrow.Author.Tests.{ne-eqb, ltb-true}
+use Rattle.ground.specs.Lists.{build}
+use Rattle.ground.proofs.Lists.{build-length, build-at, build-cong}
+use Rattle.ground.specs.Packing.{rowBytes, rowFrom, packOf}
+use Rattle.ground.proofs.Filling.{Filled, none-yet, one-more}
+use Rattle.ground.proofs.Packs.{packed-by-rule}
+use Rattle.ground.proofs.Tests.{both-right}
+use Rattle.display.specs.Types.{Panel, Plane, Display, Combination, Or, Exor, And, Attribute, Show, Normal, Reverse, Inhibit, Look}
+use Rattle.display.proofs.Bounds.{glyph-lt}
+use Rattle.display.proofs.Cases.{graphic-off, text-off, text-plain, text-attributed, cell-shown, cell-cursor}
+use Rattle.display.specs.Displayed.{addressOf, lookOf, shownAs, attributeByte, attributed, isAttribute, mixed, glyphDots, textDots, graphicDots, displayedByte, cursorLit, cursorCovers, cellByte}
+
+-- a pass: the cells filled up to n by a rule, the layer's address at cell n
+pub record Going (f : ℕ → ℕ) (start : ℕ) (l₀ l : List ℕ) (at n : ℕ) : Type 0 where
+  pub filled : Filled f l₀ l n
+  pub place : at ≡ (start + n) % 65536
+
+module _ (f : ℕ → ℕ) (start : ℕ) (l₀ : List ℕ) where
+  pub goes-from : {at : ℕ} → at ≡ (start + 0) % 65536 → Going f start l₀ l₀ at 0
+  goes-from e = record { filled = none-yet f l₀; place = e }
+
+  module _ {l : List ℕ} {at n : ℕ} (k : Going f start l₀ l at n) (h : n < length l₀) where
+    pub goes-on : {next v : ℕ} → v ≡ f n → next ≡ (at + 1) % 2 ^ 16 → Going f start l₀ (set l n v) next (n + 1)
+    goes-on e i = record { filled = one-more f l₀ (k .filled) h e; place = omega (arith, i, k .place) }
+
+    -- what is read where the next is written is as it was
+    pub still : getD l n 0 ≡ getD l₀ n 0
+    still =
+        ap (λ (x : List ℕ). getD x n 0) (k .filled .holds)
+        ∙ ap (λ (m : ℕ). getD (build n f ++ drop n l₀) m 0) (omega (arith, build-length n f))
+        ∙ getD-append-add (build n f) (drop n l₀) 0 0 ∙ getD-drop n l₀ 0 0
+        ∙ ap (λ (m : ℕ). getD l₀ m 0) (omega arith)
+
+-- a cell of a row that a rule has made
+pub of-rule : (g : ℕ → ℕ) {l : List ℕ} {n : ℕ} → l ≡ build (length l) g → n < length l → getD l n 0 ≡ g n
+of-rule g {l} {n} e h = ap (λ (x : List ℕ). getD x n 0) e ∙ build-at (length l) g n 0 h
+
+-- one place of a list from a rule written over
+pub over : (N : ℕ) (f g : ℕ → ℕ) {l : List ℕ} {x v : ℕ} → l ≡ build N f → x < N → v ≡ g x → ((c : ℕ) → (c ≡ x → ⊥) → f c ≡ g c) → set l x v ≡ build N g
+over N f g {l} {x} {v} e h a o =
+    ext-getD 0 (set l x v) (build N g) (long ∙ sym (build-length N g)) (λ i m. each i (omega (arith, long)) (ℕ-discrete i x))
+  where
+    size : length l ≡ N
+    size = ap length e ∙ build-length N f
+
+    long : length (set l x v) ≡ N
+    long = length-set l x v ∙ size
+
+    each : (i : ℕ) → i < N → Dec (i ≡ x) → getD (set l x v) i 0 ≡ getD (build N g) i 0
+    each i m (yes q) =
+        ap (λ (j : ℕ). getD (set l x v) j 0) q ∙ getD-set-same l x v 0 (omega (arith, size)) ∙ a ∙ ap g (sym q) ∙ sym (build-at N g i 0 m)
+    each i m (no q) =
+        getD-set-other l x i v 0 q ∙ ap (λ (y : List ℕ). getD y i 0) e ∙ build-at N f i 0 m ∙ o i q ∙ sym (build-at N g i 0 m)
+
+none : (t a b e f : Bool) → (t && (a && b && false && e && f)) ≡ false
+none false a b e f = refl
+none true false b e f = refl
+none true true false e f = refl
+none true true true e f = refl
+
+module _ (p : Panel) (d : Display) (mem rom : List ℕ) (r : ℕ) where
+  -- beside the cursor's column a cell is as displayed
+  pub beside : (c : ℕ) → (c ≡ d .cursor .x → ⊥) → displayedByte p d mem rom r c ≡ cellByte p d mem rom r c
+  unfolding cellByte
+  beside c n =
+      sym (ap (λ (v : Bool). cond v (2 ^ p .width - 1) (displayedByte p d mem rom r c))
+      ((λ i. cursorLit (d .shows .cursor) (d .shows .blink) (d .phase) && (ltb (d .cursor .x) (p .columns) && ltb (d .cursor .y) (p .lines) && ne-eqb (d .cursor .x) c (λ e. n (sym e)) i && eqb (d .cursor .y) (r / 8) && leb (8 - d .cursor .height) (r % 8)))
+      ∙ none (cursorLit (d .shows .cursor) (d .shows .blink) (d .phase)) (ltb (d .cursor .x) (p .columns)) (ltb (d .cursor .y) (p .lines)) (eqb (d .cursor .y) (r / 8)) (leb (8 - d .cursor .height) (r % 8))))
+
+  module _ {a b : Bool} (i : a ≡ cursorLit (d .shows .cursor) (d .shows .blink) (d .phase)) (j : b ≡ cursorCovers p (d .cursor) (r / 8) (r % 8) (d .cursor .x)) where
+    -- the cursor's column is on the panel
+    pub inside : (a && b) ≡ true → d .cursor .x < p .columns
+    inside e =
+        ltb-true (d .cursor .x) (p .columns)
+        (first (ltb (d .cursor .x) (p .columns)) (ltb (d .cursor .y) (p .lines)) (eqb (d .cursor .x) (d .cursor .x)) (eqb (d .cursor .y) (r / 8)) (leb (8 - d .cursor .height) (r % 8)) (sym j ∙ both-right a b e))
+      where
+        first : (t u v w x : Bool) → (t && u && v && w && x) ≡ true → t ≡ true
+        first true u v w x h = refl
+        first false u v w x h = h
+
+    -- laid over its cell
+    pub laid : {l : List ℕ} {n : ℕ} → (a && b) ≡ true → l ≡ build (p .columns) (displayedByte p d mem rom r) → n ≡ 2 ^ p .width - 1
+        → set l (d .cursor .x) n ≡ build (p .columns) (cellByte p d mem rom r)
+    laid e h k =
+        over (p .columns) (displayedByte p d mem rom r) (cellByte p d mem rom r) h (inside e)
+        (cell-cursor p d mem rom r (d .cursor .x) i j e k) (λ c n. beside c n)
+
+    -- not shown, or beyond the panel
+    pub unlaid : {l : List ℕ} → (a && b) ≡ false → l ≡ build (p .columns) (displayedByte p d mem rom r) → l ≡ build (p .columns) (cellByte p d mem rom r)
+    unlaid e h = h ∙ build-cong (p .columns) (displayedByte p d mem rom r) (cellByte p d mem rom r) (λ c l. go c (ℕ-discrete c (d .cursor .x)))
+      where
+        go : (c : ℕ) → Dec (c ≡ d .cursor .x) → displayedByte p d mem rom r c ≡ cellByte p d mem rom r c
+        go c (yes q) =
+            ap (displayedByte p d mem rom r) q ∙ cell-shown p d mem rom r (d .cursor .x) i j e refl ∙ ap (cellByte p d mem rom r) (sym q)
+        go c (no q) = beside c q
+
+-- a row of the table, shown
+pub by-table : (w : ℕ) (normal : Bool) (code n : ℕ) {l : Look} {m x : ℕ} → code < 16 → l ≡ lookOf code
+    → x ≡ cond (l .blinks && not normal) 0 (shownAs (l .shown) w m) → m ≡ n → x ≡ attributed w normal code n
+unfolding attributed
+by-table w normal code n {l} {m} h e i j =
+    i ∙ ap (λ (k : Look). cond (k .blinks && not normal) 0 (shownAs (k .shown) w m)) (e ∙ ap lookOf (omega arith))
+    ∙ ap (λ (k : ℕ). cond (lookOf (code % 16) .blinks && not normal) 0 (shownAs (lookOf (code % 16) .shown) w k)) j
+
+-- the dots n of a cell, from what its code makes of all dots set and of all reset
+abbrev pub shaded : List ℕ → List ℕ → ℕ → ℕ → ℕ → ℕ
+shaded lit dark all code n = bitOr (bitAnd n (getD lit code 0)) (bitAnd (all - n) (getD dark code 0))
+
+-- the cells of a row so, before a word is said of where the tables and the dots come from
+abbrev pub shadedAt : List ℕ → List ℕ → ℕ → List ℕ → ℕ → List ℕ → ℕ → ℕ
+shadedAt lit dark all mem start cells c = shaded lit dark all (getD mem ((start + c) % 65536) 0 % 16) (getD cells c 0)
+
+pub record Shading (lit dark : List ℕ) (all : ℕ) (mem : List ℕ) (start : ℕ) (l₀ l : List ℕ) (at n : ℕ) : Type 0 where
+  pub going : Going (shadedAt lit dark all mem start l₀) start l₀ l at n
+
+pub shades-from : {lit dark mem l₀ : List ℕ} {all start at : ℕ} → at ≡ (start + 0) % 65536 → Shading lit dark all mem start l₀ l₀ at 0
+shades-from e = record { going = goes-from _ _ _ e }
+
+pub shades-on : {lit dark mem l₀ l : List ℕ} {all start at n b next : ℕ} → Shading lit dark all mem start l₀ l at n → n < length l₀
+    → b ≡ getD mem at 0 → next ≡ (at + 1) % 2 ^ 16
+    → Shading lit dark all mem start l₀ (set l n (shaded lit dark all (b % 16) (getD l n 0))) next (n + 1)
+shades-on {lit} {dark} {mem} {l₀} {l} {all} {start} {at} {n} {b} k h e f =
+    let i : b ≡ getD mem ((start + n) % 65536) 0 = e ∙ ap (λ (m : ℕ). getD mem m 0) (k .going .place) in
+    record { going = goes-on _ _ _ (k .going) h (λ q. shaded lit dark all (i q % 16) (still _ _ _ (k .going) h q)) f }
+
+module _ (w n : ℕ) (h : n < 2 ^ w) where
+  -- over plain values: a row of the table made of the two
+  two-ways : (b : Bool) (s : Show)
+      → bitOr (bitAnd n (cond b 0 (shownAs s w (2 ^ w - 1)))) (bitAnd (2 ^ w - 1 - n) (cond b 0 (shownAs s w 0))) ≡ cond b 0 (shownAs s w n)
+  two-ways true s = λ i. bitOr (and-zero-r n i) (and-zero-r (2 ^ w - 1 - n) i)
+  two-ways false Normal = (λ i. bitOr ((and-mask n w ∙ mod-eq-of-lt h) i) (and-zero-r (2 ^ w - 1 - n) i)) ∙ or-zero-r n
+  two-ways false Reverse =
+      let z : 2 ^ w - 1 - (2 ^ w - 1) ≡ 0 = omega arith in
+      let k : bitAnd (2 ^ w - 1 - n) (2 ^ w - 1 - 0) ≡ 2 ^ w - 1 - n =
+      ap (bitAnd (2 ^ w - 1 - n)) (omega arith) ∙ and-mask (2 ^ w - 1 - n) w ∙ mod-eq-of-lt (ones-sub-lt w n) in
+      (λ i. bitOr ((ap (bitAnd n) z ∙ and-zero-r n) i) (k i)) ∙ or-zero-l (2 ^ w - 1 - n)
+  two-ways false Inhibit = λ i. bitOr (and-zero-r n i) (and-zero-r (2 ^ w - 1 - n) i)
+
+  two-rows : (normal : Bool) (a : ℕ)
+      → bitOr (bitAnd n (attributed w normal (a % 16) (2 ^ w - 1))) (bitAnd (2 ^ w - 1 - n) (attributed w normal (a % 16) 0)) ≡ attributed w normal a n
+  unfolding attributed
+  two-rows normal a =
+      let e : a % 16 % 16 ≡ a % 16 = omega arith in
+      two-ways (lookOf (a % 16 % 16) .blinks && not normal) (lookOf (a % 16 % 16) .shown)
+      ∙ ap (λ (m : ℕ). cond (lookOf m .blinks && not normal) 0 (shownAs (lookOf m .shown) w n)) e
+
+module _ (p : Panel) (d : Display) (mem rom : List ℕ) (r : ℕ) {lit dark cells : List ℕ} {all start : ℕ}
+    (i : lit ≡ build 16 (λ n. attributed (p .width) (d .phase) n (2 ^ p .width - 1)))
+    (j : dark ≡ build 16 (λ n. attributed (p .width) (d .phase) n 0)) (e : all ≡ 2 ^ p .width - 1)
+    (s : start ≡ addressOf (d .graphic) (r / 8) 0) (k : cells ≡ build (length cells) (glyphDots p d mem rom r)) where
+  -- dots that are not more than all
+  pub within : {n : ℕ} → n < length cells → getD cells n 0 ≤ all
+  within {n} h = rw (of-rule (glyphDots p d mem rom r) k h, e) (omega (arith, glyph-lt p d mem rom r n))
+
+  shaded-right : (c : ℕ) → c < length cells
+      → shadedAt lit dark all mem start cells c ≡ attributed (p .width) (d .phase) (attributeByte d mem (r / 8) c) (glyphDots p d mem rom r c)
+  unfolding attributeByte
+  shaded-right c h =
+      let a = attributeByte d mem (r / 8) c in
+      let w = p .width in
+      let at : getD mem ((start + c) % 65536) 0 ≡ a = ap (λ (m : ℕ). getD mem m 0) (omega (arith, s)) in
+      let code : a % 16 < 16 = omega arith in
+      (λ q. shaded lit dark all (at q % 16) (of-rule (glyphDots p d mem rom r) k h q))
+      ∙ (λ q. bitOr (bitAnd (glyphDots p d mem rom r c) ((ap (λ (x : List ℕ). getD x (a % 16) 0) i ∙ build-at 16 _ (a % 16) 0 code) q))
+      (bitAnd (e q - glyphDots p d mem rom r c) ((ap (λ (x : List ℕ). getD x (a % 16) 0) j ∙ build-at 16 _ (a % 16) 0 code) q)))
+      ∙ two-rows w (glyphDots p d mem rom r c) (glyph-lt p d mem rom r c) (d .phase) a
+
+  pub all-shaded : (l : List ℕ) → l ≡ build (length cells) (shadedAt lit dark all mem start cells)
+      → l ≡ build (length cells) (λ c. attributed (p .width) (d .phase) (attributeByte d mem (r / 8) c) (glyphDots p d mem rom r c))
+  all-shaded l h = h ∙ build-cong (length cells) _ _ shaded-right
+
+-- one layer after the other, each as long as the last
+pub own-count : (f : ℕ → ℕ) (n : ℕ) {ys : List ℕ} → ys ≡ build n f → ys ≡ build (length ys) f
+own-count f n {ys} e = e ∙ ap (λ (m : ℕ). build m f) (sym (ap length e ∙ build-length n f))
+
+pub same-count : (f g : ℕ → ℕ) (xs ys : List ℕ) {zs : List ℕ} {n : ℕ} → length xs ≡ n → ys ≡ build (length xs) f → zs ≡ build (length ys) g → zs ≡ build n g
+same-count f g xs ys {zs} {n} h e k = k ∙ ap (λ (m : ℕ). build m g) (ap length e ∙ build-length (length xs) f ∙ h)
+
+-- the text of a row: off, under attributes, or plain
+module _ (p : Panel) (d : Display) (mem rom : List ℕ) (r : ℕ) where
+  pub blank-text : (n : ℕ) {l : List ℕ} → not (d .shows .text) ≡ true → l ≡ build n (λ c. 0) → l ≡ build n (textDots p d mem rom r)
+  blank-text n e h = h ∙ build-cong n _ _ (λ c k. text-off p d mem rom r c e)
+
+  pub plain-text : (n : ℕ) {b : Bool} {l : List ℕ} → not (d .shows .text) ≡ false → b ≡ isAttribute (d .combination)
+      → (b && d .shows .graphic) ≡ false → l ≡ build n (glyphDots p d mem rom r) → l ≡ build n (textDots p d mem rom r)
+  plain-text n e i f h = h ∙ build-cong n _ _ (λ c k. text-plain p d mem rom r c e i f refl)
+
+  pub shown-text : (xs ys : List ℕ) {b : Bool} {zs : List ℕ} → not (d .shows .text) ≡ false → b ≡ isAttribute (d .combination)
+      → (b && d .shows .graphic) ≡ true → ys ≡ build (length xs) (glyphDots p d mem rom r)
+      → zs ≡ build (length ys) (λ c. attributed (p .width) (d .phase) (attributeByte d mem (r / 8) c) (glyphDots p d mem rom r c))
+      → zs ≡ build (length xs) (textDots p d mem rom r)
+  shown-text xs ys e i f g h =
+      same-count (glyphDots p d mem rom r) _ xs ys refl g h
+      ∙ build-cong (length xs) _ _ (λ c k. text-attributed p d mem rom r c e i f refl refl refl)
+
+-- over plain values: graphic off, or attribute mode, and the text stands alone
+alone : (t g : Bool) (k : Combination) (x : ℕ) → (g && not (isAttribute k)) ≡ false → (not t ≡ true → 0 ≡ x) → x ≡ mixed t g k x 0
+alone true true Or x e h = absurd (true≢false e)
+alone true true Exor x e h = absurd (true≢false e)
+alone true true And x e h = absurd (true≢false e)
+alone true true Attribute x e h = refl
+alone true false k x e h = refl
+alone false g k x e h = sym (h refl)
+
+pub text-alone : (p : Panel) (d : Display) (mem rom : List ℕ) (r : ℕ) {b : Bool} {l : List ℕ} → b ≡ isAttribute (d .combination)
+    → (d .shows .graphic && not b) ≡ false → l ≡ build (length l) (textDots p d mem rom r) → l ≡ build (length l) (displayedByte p d mem rom r)
+unfolding displayedByte
+text-alone p d mem rom r {b} {l} i e h = h ∙ build-cong (length l) (textDots p d mem rom r) (displayedByte p d mem rom r) (λ c k. each c)
+  where
+    each : (c : ℕ) → textDots p d mem rom r c ≡ displayedByte p d mem rom r c
+    each c =
+        alone (d .shows .text) (d .shows .graphic) (d .combination) (textDots p d mem rom r c) (sym (λ j. d .shows .graphic && not (i j)) ∙ e)
+        (λ o. text-off p d mem rom r c o)
+        ∙ ap (λ (g : ℕ). mixed (d .shows .text) (d .shows .graphic) (d .combination) (textDots p d mem rom r c) g) (graphic-off p d mem r c i e)
+
+-- cells laid into the front of an array, and packed from there
+module _ (C : ℕ) (f : ℕ → ℕ) (ys rest : List ℕ) (h : ys ≡ build C f) where
+  count : length ys ≡ C
+  count = ap length h ∙ build-length C f
+
+  pub front-fits : C ≤ length (ys ++ rest)
+  front-fits = rw (length-append ys rest) (omega (arith, count))
+
+  pub front-count : C ≡ length (take C (ys ++ rest))
+  front-count = sym (ap length (take-at ys rest C count) ∙ count)
+
+  pub front-packed : (w : ℕ) (x out : List ℕ) → (w ≡ 6) ⊎ (w ≡ 8) → C ≤ 80 → length out ≡ rowBytes C w → x ≡ packOf w (take C (ys ++ rest)) out → x ≡ rowFrom C w f
+  front-packed w x out k few m e =
+      e ∙ ap (λ (z : List ℕ). packOf w z out) (take-at ys rest C count ∙ h)
+      ∙ packed-by-rule C w (build C f) f (build-length C f) (λ c l. build-at C f c 0 l) k few out m

@@ -1,0 +1,49 @@
+-- `clear` meets its contract: cell by cell.
+use mathlib.Core.Path.{refl}
+use Prim.Native.Nat.{_-_}
+use native.Mathlib.Omega.{arith}
+use Rattle.ground.proofs.Filling.{Filled, none-yet, as-long, one-more, at-end}
+use borrow.Author.Needs.{needs}
+use Rattle.display.proofs.layers.clear.Statement.{statement}
+use Rattle.display.proofs.layers.clear.Tie as tie
+
+abbrev Inv-loop : tie.InvT-loop
+Inv-loop cells₀ column₀ column-end cells column = Filled (λ c. 0) cells₀ cells column
+
+abbrev μ-loop : tie.MeasureT-loop
+μ-loop cells₀ column₀ column-end cells column = column-end - column
+
+loop-holds : tie.Need-loop-holds Inv-loop μ-loop
+loop-holds c = none-yet _ _
+
+slice-write-cells : tie.Need-slice-write-cells Inv-loop μ-loop
+slice-write-cells c = omega (arith, as-long _ _ (c .before .loop .inv))
+
+add-column : tie.Need-add-column Inv-loop μ-loop
+add-column c = search needs
+
+loop-less : tie.Need-loop-less Inv-loop μ-loop
+loop-less c = omega arith
+
+loop-again : tie.Need-loop-again Inv-loop μ-loop
+loop-again c = one-more _ _ (c .before .loop .inv) (c .loop-test .taken) refl
+
+same-length : tie.Need-same-length Inv-loop μ-loop
+same-length c = as-long _ _ (c .before .loop .inv)
+
+returns : tie.Need-returns Inv-loop μ-loop
+returns c = at-end _ _ (c .before .loop .inv) _ refl (c .loop-test .left)
+
+pub clear-spec : {M : Type 1} → statement M
+clear-spec =
+    tie.close
+    (tie.spec
+    Inv-loop
+    μ-loop
+    loop-holds
+    slice-write-cells
+    add-column
+    loop-less
+    loop-again
+    same-length
+    returns)

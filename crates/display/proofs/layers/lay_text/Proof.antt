@@ -1,0 +1,53 @@
+-- `lay_text` meets its contract: none, glyphs under attributes, or glyphs.
+use Rattle.display.proofs.Passes.{own-count, blank-text, shown-text, plain-text}
+use borrow.Author.Needs.{needs}
+use Rattle.display.proofs.layers.lay_text.Statement.{statement}
+use Rattle.display.proofs.layers.lay_text.Tie as tie
+
+clear-requires : tie.Need-clear-requires
+clear-requires c κs = search needs
+
+same-length : tie.Need-same-length
+same-length c = search needs
+
+returns : tie.Need-returns
+returns c = blank-text _ _ _ _ _ _ (c .before .before .before .before .if1 .taken) (c .before .before .clear .ensures)
+
+lay-glyphs-requires : tie.Need-lay-glyphs-requires
+lay-glyphs-requires c κs = search needs
+
+is-attribute-requires : tie.Need-is-attribute-requires
+is-attribute-requires c κs = search needs
+
+lay-attributes-requires : tie.Need-lay-attributes-requires
+lay-attributes-requires c κs = (c .before .before .before .before .before .before .before .before .before .before .before .before .before .pre, own-count _ _ (c .before .before .before .before .before .before .lay-glyphs .ensures))
+
+same-length-2 : tie.Need-same-length-2
+same-length-2 c = search needs
+
+returns-2 : tie.Need-returns-2
+returns-2 c =
+    let a = c .before .before .before .before .before .before .before .before .before .before .before .before .before .before .before .before .args in
+    shown-text (a .panel) (a .display) (a .mem .now) (a .rom .now) (a .row) (a .cells .now) _ (c .before .before .before .before .before .before .before .before .before .before .before .if1 .left) (c .before .before .before .before .before .before .is-attribute .ensures) (c .before .before .before .before .if2 .taken)
+    (c .before .before .before .before .before .before .before .before .before .lay-glyphs .ensures) (c .before .before .lay-attributes .ensures)
+
+same-length-3 : tie.Need-same-length-3
+same-length-3 c = search needs
+
+returns-3 : tie.Need-returns-3
+returns-3 c = plain-text _ _ _ _ _ _ (c .before .before .before .before .before .before .before .if1 .left) (c .before .before .is-attribute .ensures) (c .if2 .left) (c .before .before .before .before .before .lay-glyphs .ensures)
+
+pub lay-text-spec : {M : Type 1} → statement M
+lay-text-spec =
+    tie.close
+    (tie.spec
+    clear-requires
+    same-length
+    returns
+    lay-glyphs-requires
+    is-attribute-requires
+    lay-attributes-requires
+    same-length-2
+    returns-2
+    same-length-3
+    returns-3)
