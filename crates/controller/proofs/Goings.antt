@@ -1,38 +1,27 @@
 -- A run pair by pair: what is left from here comes to the whole.
 use mathlib.Core.Path.{_≡_, refl, ap, sym, subst, _∙_}
-use mathlib.Core.Bool.{Bool, true, false, cond, _||_}
+use mathlib.Core.Bool.{Bool, true, false, cond, not, _&&_, _||_, false≢true}
 use mathlib.Core.List.{List, [], _∷_}
-use Prim.Native.Nat.{ℕ, zero, suc, _+_, _-_, _*_, _<_, _≤_}
+use Prim.Native.Nat.{ℕ, zero, suc, _+_, _-_, _*_, _%_, _<_, _≤_}
 use native.Mathlib.Numerals.{add-one}
 use native.Mathlib.Omega.{arith}
 use lib.Dec.{ltb, eqb}
 use lib.ListN.{length, getD, take, drop, set, length-set}
-use borrow.Author.Tests.{eq-eqb}
-use Rattle.ground.proofs.Tests.{cond-has, both}
-use Rattle.display.specs.State.{validPanel}
+use borrow.Author.Tests.{eq-eqb, eqb-true}
+use Rattle.ground.specs.Lists.{stored}
+use Rattle.ground.proofs.Tests.{cond-has, both, both-left, both-right}
+use Rattle.ground.proofs.Stores.{stored-length}
+use Rattle.display.specs.State.{validPanel, none}
+use Rattle.codes.specs.Command.{isOff}
 use Rattle.display.specs.Frame.{lentLengths}
-use Rattle.controller.specs.Types.{Panel, Registers, Turned, Ran}
-use Rattle.controller.specs.Access.{Pair, Machine, machine, Step, done, answered, refused, stepOf}
+use Rattle.controller.specs.Types.{Panel, Display, Auto, Off, Write, Read, Pending, Bus, Registers, Turned, Ran, Told, Drawn}
+use Rattle.controller.specs.Effect.{withBus, withPointer, withPending, withPhase, pushed, isWrite, stateOf}
+use Rattle.controller.specs.Access.{Pair, Machine, machine, Step, done, answered, refused, writeOf, readOf, stepOf}
 use Rattle.controller.specs.Run.{pairsOf, Standing, Turn, went, halted, turnOf, End, whole, short, Run, afterTurn, runFrom, RanAll, ranAll, ranOf}
-use Rattle.controller.specs.Ready.{Runs, standing, TurnedAll, turnedAll, turnedOf}
+use Rattle.controller.specs.Ready.{Runs, Tells, Draws, Blocked, pairsFrom, dataOf, standing, TurnedAll, turnedAll, turnedOf}
+use Rattle.controller.proofs.Blocks.{pairAt, pairs-here, pairs-behind, write-only, block-run}
 use Rattle.controller.proofs.Laws.{Sounds, sounds-valid, Leaves, step-sound}
 use Rattle.controller.proofs.Turns.{Answering, answers, declines, Acting, acts, refuses, step-answering, step-acting}
-
--- the pair at a place of a log
-abbrev pub pairAt : List ℕ → ℕ → Pair
-pairAt log i = record { kind = getD log (2 * i) 0; byte = getD log (2 * i + 1) 0 }
-
-pub pair-next : (log : List ℕ) (i : ℕ) → 2 * i + 1 < length log
-    → drop i (pairsOf log) ≡ pairAt log i ∷ drop (suc i) (pairsOf log)
-unfolding pairsOf
-pair-next [] i h = absurd (omega arith)
-pair-next (k ∷ []) i h = absurd (omega arith)
-pair-next (k ∷ (b ∷ log)) zero h = refl
-pair-next (k ∷ (b ∷ log)) (suc i) h =
-    let e : 2 * suc i ≡ suc (suc (2 * i)) = omega arith in
-    let f : 2 * suc i + 1 ≡ suc (suc (2 * i + 1)) = omega arith in
-    pair-next log i (omega arith)
-    ∙ (λ t. record { kind = getD (k ∷ (b ∷ log)) (sym e t) 0; byte = getD (k ∷ (b ∷ log)) (sym f t) 0 } ∷ drop (suc i) (pairsOf log))
 
 -- what a turn keeps: the machine sound, the answer buffer as long
 abbrev pub Keeps : Standing Machine → Turn Machine → Type 0
@@ -105,17 +94,45 @@ module _ {p : Panel} {rom log : List ℕ} {total : ℕ} {s₀ s : Standing Machi
       record { panel = v; state = sounds-valid k; lent = both (eq-eqb (length mem) 65536 (k .memory)) (eq-eqb (length rom) 1024 l) }
 
   module _ (h : i < total) (l : 2 * total ≤ length log) where
-    here : take (total - i) (drop i (pairsOf log)) ≡ pairAt log i ∷ take (total - (i + 1)) (drop (i + 1) (pairsOf log))
-    here =
-        let e : total - i ≡ suc (total - (i + 1)) = omega arith in
-        (λ t. take (e t) (pair-next log i (omega arith) t)) ∙ (λ t. pairAt log i ∷ take (total - (i + 1)) (drop (sym (add-one i) t) (pairsOf log)))
-
     turned : afterTurn (turnOf s (stepOf p rom (s .machine) (pairAt log i)))
         (λ t. runFrom (stepOf p rom) (suc i) (take (total - (i + 1)) (drop (i + 1) (pairsOf log))) t)
         (λ n. record { standing = s; taken = i; end = short n })
         ≡ runFrom (stepOf p rom) 0 (take total (pairsOf log)) s₀
     unfolding runFrom
-    turned = sym (ap (λ (qs : List Pair). runFrom (stepOf p rom) i qs s) here) ∙ g .left
+    turned = sym (ap (λ (qs : List Pair). runFrom (stepOf p rom) i qs s) (pairs-here log total i h l)) ∙ g .left
+
+    -- a pair that is known to be taken
+    went-on : {t : Standing Machine} → turnOf s (stepOf p rom (s .machine) (pairAt log i)) ≡ went t → Going p rom log total s₀ t (i + 1)
+    went-on {t} w =
+        let k = subst (Keeps s) w (turn-keeps s (stepOf p rom (s .machine) (pairAt log i)) (step-sound p rom (s .machine) (g .sound) (pairAt log i))) in
+        record {
+          inside = omega arith;
+          sound = k .0;
+          room = k .1 ∙ g .room;
+          left = ap (λ (n : ℕ). runFrom (stepOf p rom) n (take (total - (i + 1)) (drop (i + 1) (pairsOf log))) t) (add-one i)
+              ∙ sym
+              (ap
+              (λ (o : Turn Machine). afterTurn o
+              (λ t. runFrom (stepOf p rom) (suc i) (take (total - (i + 1)) (drop (i + 1) (pairsOf log))) t)
+              (λ n. record { standing = s; taken = i; end = short n })) w)
+              ∙ turned;
+        }
+
+    -- done, the pair being of a known kind
+    pub going-done : (n : ℕ) → getD log (2 * i) 0 ≡ n → {m : Machine}
+        → stepOf p rom (s .machine) (record { kind = n; byte = getD log (2 * i + 1) 0 }) ≡ done m
+        → Going p rom log total s₀ (record { machine = m; answers = s .answers; given = s .given }) (i + 1)
+    going-done n e h =
+        went-on (ap (λ (k : ℕ). turnOf s (stepOf p rom (s .machine) (record { kind = k; byte = getD log (2 * i + 1) 0 }))) e ∙ ap (turnOf s) h)
+
+    -- answered, and there is room
+    pub going-answers : (n : ℕ) → getD log (2 * i) 0 ≡ n → {m : Machine} {b : ℕ}
+        → stepOf p rom (s .machine) (record { kind = n; byte = getD log (2 * i + 1) 0 }) ≡ answered m b → ltb (s .given) (length (s .answers)) ≡ true
+        → Going p rom log total s₀ (record { machine = m; answers = set (s .answers) (s .given) b; given = s .given + 1 }) (i + 1)
+    going-answers n e {m} {b} h r =
+        went-on
+        (ap (λ (k : ℕ). turnOf s (stepOf p rom (s .machine) (record { kind = k; byte = getD log (2 * i + 1) 0 }))) e ∙ ap (turnOf s) h
+        ∙ ap (λ (t : Bool). cond t (went (record { machine = m; answers = set (s .answers) (s .given) b; given = s .given + 1 })) (halted 13)) r)
 
     module _ {t : Turned} {m a : List ℕ}
         (e : turnedAll t m a ≡ turnedOf s (turnOf s (stepOf p rom (s .machine) (pairAt log i)))) where
@@ -123,19 +140,7 @@ module _ {p : Panel} {rom log : List ℕ} {total : ℕ} {s₀ s : Standing Machi
       pub going-on : t .number ≡ 0 → Going p rom log total s₀ (standing (t .registers) m a (t .given)) (i + 1)
       going-on z =
           let w = turn-taken s (turnOf s (stepOf p rom (s .machine) (pairAt log i))) (step-proper p rom s (getD log (2 * i) 0) (getD log (2 * i + 1) 0)) e z in
-          let k = subst (Keeps s) w (turn-keeps s (stepOf p rom (s .machine) (pairAt log i)) (step-sound p rom (s .machine) (g .sound) (pairAt log i))) in
-          record {
-            inside = omega arith;
-            sound = k .0;
-            room = k .1 ∙ g .room;
-            left = ap (λ (n : ℕ). runFrom (stepOf p rom) n (take (total - (i + 1)) (drop (i + 1) (pairsOf log))) (standing (t .registers) m a (t .given))) (add-one i)
-                ∙ sym
-                (ap
-                (λ (o : Turn Machine). afterTurn o
-                (λ t. runFrom (stepOf p rom) (suc i) (take (total - (i + 1)) (drop (i + 1) (pairsOf log))) t)
-                (λ n. record { standing = s; taken = i; end = short n })) w)
-                ∙ turned;
-          }
+          went-on w
 
       -- a pair refused
       pub going-stops : (t .number ≡ 0 → ⊥)
@@ -146,6 +151,27 @@ module _ {p : Panel} {rom log : List ℕ} {total : ℕ} {s₀ s : Standing Machi
           (λ t. runFrom (stepOf p rom) (suc i) (take (total - (i + 1)) (drop (i + 1) (pairsOf log))) t)
           ∙ ap ranOf turned
 
+  -- a block of data in auto write
+  pub going-block : {b : Bool} → b ≡ isWrite (s .machine .registers .bus .auto) → b ≡ true → {m : List ℕ} {end n : ℕ}
+      → Blocked (s .machine .memory) (s .machine .registers .bus .pointer) log i total m end
+      → n ≡ (s .machine .registers .bus .pointer + (end - i) % 65536) % 65536
+      → Going p rom log total s₀ (standing (withBus (s .machine .registers) (withPointer (s .machine .registers .bus) n)) m (s .answers) (s .given)) end
+  going-block e w {m} {end} {n} k f =
+      let j : n ≡ (s .machine .registers .bus .pointer + length (dataOf (pairsFrom log i total))) % 65536 = omega (arith, f, k .reaches) in
+      record {
+        inside = k .inside;
+        sound = record { display = g .sound .display; bus = g .sound .bus; memory = ap length (k .holds) ∙ stored-length (s .machine .memory) _ _ ∙ g .sound .memory };
+        room = g .room;
+        left = (λ t. runFrom (stepOf p rom) (k .reaches t) (pairsFrom log (k .reaches t) total) (standing (withBus (s .machine .registers) (withPointer (s .machine .registers .bus) (j t))) (k .holds t) (s .answers) (s .given)))
+            ∙ sym
+            (ap
+            (λ (qs : List Pair). runFrom (stepOf p rom) (i + length (dataOf (pairsFrom log i total))) qs
+            (standing (withBus (s .machine .registers) (withPointer (s .machine .registers .bus) ((s .machine .registers .bus .pointer + length (dataOf (pairsFrom log i total))) % 65536))) (stored (s .machine .memory) (s .machine .registers .bus .pointer) (dataOf (pairsFrom log i total))) (s .answers) (s .given)))
+            (pairs-behind log total i (length (dataOf (pairsFrom log i total)))))
+            ∙ sym (block-run p rom (pairsFrom log i total) i (s .machine .registers) (s .machine .memory) (s .answers) (s .given) (write-only (s .machine .registers .bus .auto) (sym e ∙ w)) (k .low))
+            ∙ g .left;
+      }
+
   -- the stated number reached
   pub going-ends : total ≤ i
       → ranAll (record { number = 0; place = 0; taken = i; answers = s .given; registers = s .machine .registers }) (s .machine .memory) (s .answers)
@@ -154,3 +180,52 @@ module _ {p : Panel} {rom log : List ℕ} {total : ℕ} {s₀ s : Standing Machi
   going-ends h =
       let e : total - i ≡ 0 = omega arith in
       sym (ap (λ (n : ℕ). ranOf (runFrom (stepOf p rom) i (take n (drop i (pairsOf log))) s)) e) ∙ ap ranOf (g .left)
+
+off-only : (a : Auto) → isOff a ≡ true → a ≡ Off
+off-only Off e = refl
+off-only Write e = absurd (false≢true e)
+off-only Read e = absurd (false≢true e)
+
+-- the pairs that are taken apart from the others
+module _ {p : Panel} {rom log : List ℕ} {total : ℕ} {s₀ : Standing Machine} {d : Display} {b : Bus} {m a : List ℕ} {n i : ℕ}
+    (g : Going p rom log total s₀ (standing (record { display = d; bus = b }) m a n) i) where
+  pub going-kept : {after : List ℕ} → after ≡ m → Going p rom log total s₀ (standing (record { display = d; bus = b }) after a n) i
+  going-kept e = subst (λ (x : List ℕ). Going p rom log total s₀ (standing (record { display = d; bus = b }) x a n) i) (sym e) g
+
+  module _ (h : i < total) (l : 2 * total ≤ length log) where
+    pub going-states : (eqb (getD log (2 * i) 0) 3 && ltb n (length a)) ≡ true → {v : ℕ} → v ≡ stateOf b (d .phase)
+        → Going p rom log total s₀ (standing (record { display = d; bus = b }) m (set a n v) (n + 1)) (i + 1)
+    going-states t f =
+        going-answers g h l 3 (eqb-true (getD log (2 * i) 0) 3 (both-left (eqb (getD log (2 * i) 0) 3) (ltb n (length a)) t))
+        (ap (answered (machine (record { display = d; bus = b }) m)) (sym f)) (both-right (eqb (getD log (2 * i) 0) 3) (ltb n (length a)) t)
+
+    pub going-ticks : getD log (2 * i) 0 ≡ 4 → Going p rom log total s₀ (standing (record { display = withPhase d (not (d .phase)); bus = b }) m a n) (i + 1)
+    going-ticks e = going-done g h l 4 e refl
+
+    module _ {off : Bool} (e : off ≡ isOff (b .auto)) where
+      pub going-pushes : (eqb (getD log (2 * i) 0) 0 && off) ≡ true → {q : Pending} → q ≡ pushed (b .pending) (getD log (2 * i + 1) 0)
+          → Going p rom log total s₀ (standing (record { display = d; bus = withPending b q }) m a n) (i + 1)
+      going-pushes t f =
+          going-done g h l 0 (eqb-true (getD log (2 * i) 0) 0 (both-left (eqb (getD log (2 * i) 0) 0) off t))
+          (ap (λ (x : Auto). writeOf x (machine (record { display = d; bus = b }) m) (getD log (2 * i + 1) 0)) (off-only (b .auto) (sym e ∙ both-right (eqb (getD log (2 * i) 0) 0) off t))
+          ∙ (λ t. done (machine (record { display = d; bus = withPending b (sym f t) }) m)))
+
+      pub going-reads : ((eqb (getD log (2 * i) 0) 2 && ltb n (length a)) && off) ≡ true
+          → Going p rom log total s₀ (standing (record { display = d; bus = b }) m (set a n (b .latch)) (n + 1)) (i + 1)
+      going-reads t =
+          let u = both-left (eqb (getD log (2 * i) 0) 2 && ltb n (length a)) off t in
+          going-answers g h l 2 (eqb-true (getD log (2 * i) 0) 2 (both-left (eqb (getD log (2 * i) 0) 2) (ltb n (length a)) u))
+          (ap (λ (x : Auto). readOf x (machine (record { display = d; bus = b }) m)) (off-only (b .auto) (sym e ∙ both-right (eqb (getD log (2 * i) 0) 2 && ltb n (length a)) off t)))
+          (both-right (eqb (getD log (2 * i) 0) 2) (ltb n (length a)) u)
+
+      pub going-tells : {told : Told} {after : List ℕ} → Tells b m (eqb (getD log (2 * i) 0) 1 && off) (getD log (2 * i + 1) 0) told after → told .done ≡ true
+          → Going p rom log total s₀ (standing (record { display = d; bus = told .bus }) after a n) (i + 1)
+      going-tells k t =
+          going-done g h l 1 (eqb-true (getD log (2 * i) 0) 1 (both-left (eqb (getD log (2 * i) 0) 1) off (k .quiet t)))
+          (k .acts t (sym e ∙ both-right (eqb (getD log (2 * i) 0) 1) off (k .quiet t)) p rom d)
+
+      pub going-draws : {drawn : Drawn} → Draws d (eqb (getD log (2 * i) 0) 1 && off) (getD log (2 * i + 1) 0) drawn → drawn .done ≡ true
+          → Going p rom log total s₀ (standing (record { display = drawn .display; bus = withPending b none }) m a n) (i + 1)
+      going-draws k t =
+          going-done g h l 1 (eqb-true (getD log (2 * i) 0) 1 (both-left (eqb (getD log (2 * i) 0) 1) off (k .quiet t)))
+          (k .acts t b (sym e ∙ both-right (eqb (getD log (2 * i) 0) 1) off (k .quiet t)) p rom m)

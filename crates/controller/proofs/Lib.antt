@@ -1,4 +1,5 @@
 pub mod Acts
+pub mod Blocks
 pub mod Goings
 pub mod Laws
 pub mod Lines
@@ -10,4 +11,5 @@ pub mod Runs
 pub mod Splits
 pub mod Splitting
 pub mod Takes
+pub mod Tells
 pub mod Turns

@@ -1,6 +1,6 @@
 -- 01, Bus pairs: one register altered and the others as they were, the pointer's moves, the status.
 use Prim.Native.Nat.{ℕ, _+_, _%_}
-use mathlib.Core.Bool.{Bool, cond}
+use mathlib.Core.Bool.{Bool, true, false, cond}
 use lib.Dec.{ltb}
 use lib.Bits.{bitOr}
 use Rattle.ground.specs.Bytes.{wordOf}
@@ -74,6 +74,11 @@ setOf target.GraphicHome d1 d2 r =
 setOf target.GraphicArea d1 d2 r =
     withDisplay r (withGraphic (r .display) (record { home = r .display .graphic .home; area = d1 }))
 
+abbrev pub isWrite : Auto → Bool
+isWrite Off = false
+isWrite Write = true
+isWrite Read = false
+
 -- bits 0 and 1 unless auto, bit 2 in auto read, bit 3 in auto write (H for bits 0 and 1)
 abbrev pub autoBits : Auto → ℕ
 autoBits Off = 0b0011
@@ -81,6 +86,8 @@ autoBits Read = 0b0100
 autoBits Write = 0b1000
 
 -- and bit 5 always, bit 6 error, bit 7 phase normal, bit 4 clear (H but for bit 6)
+abbrev pub stateOf : Bus → Bool → ℕ
+stateOf b phase = bitOr (bitOr (bitOr (autoBits (b .auto)) 0x20) (cond (b .error) 0x40 0)) (cond phase 0x80 0)
+
 abbrev pub statusOf : Registers → ℕ
-statusOf r =
-    bitOr (bitOr (bitOr (autoBits (r .bus .auto)) 0x20) (cond (r .bus .error) 0x40 0)) (cond (r .display .phase) 0x80 0)
+statusOf r = stateOf (r .bus) (r .display .phase)

@@ -1,15 +1,18 @@
 -- What inner routines rest on, tested once at the door, and what they give.
 use mathlib.Core.Path.{_≡_}
-use mathlib.Core.Bool.{true, cond}
-use mathlib.Core.List.{List}
-use Prim.Native.Nat.{ℕ, _+_, _≤_}
+use mathlib.Core.Bool.{Bool, true, false, cond}
+use mathlib.Core.List.{List, [], _∷_}
+use Prim.Native.Nat.{ℕ, _+_, _-_, _<_, _≤_}
 use lib.Dec.{ltb, eqb}
-use lib.ListN.{length, take, set}
-use Rattle.display.specs.State.{validPanel, validDisplay, validRegisters}
+use lib.ListN.{length, take, drop, set}
+use Rattle.ground.specs.Lists.{stored}
+use Rattle.display.specs.State.{validPanel, validDisplay, validRegisters, none}
 use Rattle.display.specs.Frame.{lentLengths}
-use Rattle.controller.specs.Types.{Panel, Display, Registers, Line, Acted, Turned}
-use Rattle.controller.specs.Access.{Machine, machine}
-use Rattle.controller.specs.Run.{Standing, Turn, went, halted}
+use Rattle.controller.specs.Types.{Panel, Display, Bus, Registers, Line, Acted, Turned, Told, Drawn}
+use Rattle.codes.specs.Command.{isOff}
+use Rattle.controller.specs.Effect.{withPending}
+use Rattle.controller.specs.Access.{Pair, code, Machine, machine, done, stepOf}
+use Rattle.controller.specs.Run.{pairsOf, Standing, Turn, went, halted}
 
 -- one access
 pub record Ready (p : Panel) (d : Display) (mem rom : List ℕ) : Type 0 where
@@ -72,3 +75,32 @@ answeredOf a r answers given =
     (answeredAll (record { number = 0; registers = a .registers; given = given + 1 }) (set answers given (a .answer)))
     (answeredAll (record { number = 13; registers = r; given = given }) answers))
     (answeredAll (record { number = a .number; registers = r; given = given }) answers)
+
+-- the pairs of a log from one place up to another
+abbrev pub pairsFrom : List ℕ → ℕ → ℕ → List Pair
+pairsFrom log from total = take (total - from) (drop from (pairsOf log))
+
+-- the bytes of the data that some pairs begin with
+unfoldable pub dataOf : List Pair → List ℕ
+dataOf [] = []
+dataOf (q ∷ qs) = cond (eqb (q .kind) 0) (q .byte ∷ dataOf qs) []
+
+-- a block of data stored from the pointer on, and the place of the first pair behind it
+pub record Blocked (mem : List ℕ) (start : ℕ) (log : List ℕ) (from total : ℕ) (after : List ℕ) (end : ℕ) : Type 0 where
+  pub low : start < 65536
+  pub inside : end ≤ total
+  pub holds : after ≡ stored mem start (dataOf (pairsFrom log from total))
+  pub reaches : end ≡ from + length (dataOf (pairsFrom log from total))
+
+-- a command told to the bus and the memory alone, where auto is off: done as a step does it, whatever the display; or left, and all is as it was
+pub record Tells (b : Bus) (mem : List ℕ) (still : Bool) (k : ℕ) (told : Told) (after : List ℕ) : Type 0 where
+  pub quiet : told .done ≡ true → still ≡ true
+  pub acts : told .done ≡ true → isOff (b .auto) ≡ true → (p : Panel) (rom : List ℕ) (d : Display)
+      → stepOf p rom (machine (record { display = d; bus = b }) mem) (code k) ≡ done (machine (record { display = d; bus = told .bus }) after)
+  pub keeps : told .done ≡ false → after ≡ mem
+
+-- a command of the display alone, where auto is off: done as a step does it, whatever the bus and the memory
+pub record Draws (d : Display) (still : Bool) (k : ℕ) (drawn : Drawn) : Type 0 where
+  pub quiet : drawn .done ≡ true → still ≡ true
+  pub acts : drawn .done ≡ true → (b : Bus) → isOff (b .auto) ≡ true → (p : Panel) (rom mem : List ℕ)
+      → stepOf p rom (machine (record { display = d; bus = b }) mem) (code k) ≡ done (machine (record { display = drawn .display; bus = withPending b none }) mem)

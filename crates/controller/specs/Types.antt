@@ -24,3 +24,5 @@ pub use Rattle.controller.specs.declared.access.Acted.{Acted}
 pub use Rattle.controller.specs.declared.line.Line.{Line}
 pub use Rattle.controller.specs.declared.run.Ran.{Ran}
 pub use Rattle.controller.specs.declared.run.Turned.{Turned}
+pub use Rattle.controller.specs.declared.run.Told.{Told}
+pub use Rattle.controller.specs.declared.run.Drawn.{Drawn}

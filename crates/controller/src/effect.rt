@@ -3,7 +3,7 @@ ghost use mathlib.Core.Path.{_≡_};
 ghost use mathlib.Core.Bool.{cond};
 ghost use lib.Dec.{ltb};
 ghost use Prim.Native.Nat.{_+_};
-ghost use Rattle.controller.specs.Effect.{withMode, withAuto, pushed, movedOf, setOf, autoBits, statusOf};
+ghost use Rattle.controller.specs.Effect.{withMode, withAuto, pushed, movedOf, setOf, isWrite, autoBits, stateOf, statusOf};
 use codes::command::Move;
 use codes::command::Target;
 use display::registers::Auto;
@@ -128,6 +128,16 @@ pub(crate) fn set_target(target: Target, d1: u8, d2: u8, registers: Registers) -
     }
 }
 
+pub(crate) fn is_write(auto: Auto) -> bool
+    ensures { λ r. ⌜ r ≡ isWrite auto ⌝ }
+{
+    match auto {
+        Auto::Off => false,
+        Auto::Write => true,
+        Auto::Read => false,
+    }
+}
+
 fn when(on: bool, bits: u8) -> u8
     ensures { λ r. ⌜ r ≡ cond on bits 0 ⌝ }
 {
@@ -144,11 +154,18 @@ fn auto_bits(auto: Auto) -> u8
     }
 }
 
+// The status byte, of the bus and the phase.
+pub(crate) fn state(bus: Bus, phase: bool) -> u8
+    ensures { λ r. ⌜ r ≡ stateOf bus phase ⌝ }
+{
+    let auto = bus.auto;
+    auto_bits(auto) | 0x20 | when(bus.error, 0x40) | when(phase, 0x80)
+}
+
 pub(crate) fn status(registers: Registers) -> u8
     ensures { λ r. ⌜ r ≡ statusOf registers ⌝ }
 {
     let bus = registers.bus;
     let display = registers.display;
-    let auto = bus.auto;
-    auto_bits(auto) | 0x20 | when(bus.error, 0x40) | when(display.phase, 0x80)
+    state(bus, display.phase)
 }

@@ -1,19 +1,35 @@
 // The run of a log.
 ghost use mathlib.Core.Path.{_≡_};
+ghost use mathlib.Core.Bool.{true, false};
+ghost use Rattle.controller.specs.Effect.{withMode};
 ghost use Prim.Native.Nat.{_*_, _≤_};
 ghost use lib.ListN.{length, take};
 ghost use Rattle.controller.specs.Access.{machine, stepOf};
 ghost use Rattle.controller.specs.Run.{turnOf, runFrom, ranOf, ranAll, runOf, pairsOf};
-ghost use Rattle.controller.specs.Ready.{Runs, standing, turnedAll, turnedOf, takenOf, answeredAll, answeredOf};
+ghost use Rattle.controller.specs.Ready.{Runs, Tells, Draws, Blocked, standing, turnedAll, turnedOf, takenOf, answeredAll, answeredOf};
 use crate::access::Acted;
 use crate::access::command;
 use crate::access::data_read;
 use crate::access::data_write;
 use crate::access::read_status;
 use crate::access::tick;
+use crate::effect::is_write;
+use crate::effect::moved;
+use crate::effect::push;
+use crate::effect::state;
+use crate::effect::with_mode;
+use codes::command::Move;
+use codes::command::is_off;
 use display::panel::Panel;
+use display::registers::Bus;
+use display::registers::Combination;
+use display::registers::Display;
+use display::registers::Pending;
 use display::registers::Registers;
+use display::registers::Shows;
 use ground::bytes::lesser;
+use ground::bytes::with_bit;
+use ground::bytes::word;
 
 // A number and place, the pairs taken, the answers written, the registers after.
 pub struct Ran {
@@ -120,6 +136,213 @@ fn turn(
     }
 }
 
+// A command of the bus alone, done or left as it was.
+pub(crate) struct Told {
+    pub bus: Bus,
+    pub done: bool,
+}
+
+fn left(bus: Bus) -> Told
+    ensures { λ r. ⌜ r ≡ record { bus = bus; done = false } ⌝ }
+{
+    Told { bus, done: false }
+}
+
+// The commands that a drawing program sends most: pointer, stores, loads and bits, where they are taken. Any other is left to `turn`.
+fn tell(bus: Bus, mem: &mut [u8], quiet: bool, code: u8) -> Told
+    requires { ⌜ length (now mem) ≡ 65536 ⌝ }
+    ensures { λ r. ⌜ Tells bus (now (mem .entry)) quiet code r (now (mem .exit)) ⌝ }
+{
+    let pending = bus.pending;
+    let pointer = bus.pointer;
+    let at = pointer as usize;
+    let none = Pending {
+        count: 0,
+        older: 0,
+        newest: 0,
+    };
+    let mut next = bus;
+    next.pending = none;
+    if quiet {
+        match code {
+            0x24 => {
+                if pending.count < 2 {
+                    return left(bus);
+                }
+                next.pointer = word(pending.older, pending.newest);
+                Told {
+                    bus: next,
+                    done: true,
+                }
+            }
+            0xc0 => {
+                if pending.count < 1 {
+                    return left(bus);
+                }
+                mem[at] = pending.newest;
+                next.pointer = moved(Move::Up, pointer);
+                Told {
+                    bus: next,
+                    done: true,
+                }
+            }
+            0xc1 => {
+                next.latch = mem[at];
+                next.pointer = moved(Move::Up, pointer);
+                Told {
+                    bus: next,
+                    done: true,
+                }
+            }
+            0xc2 => {
+                if pending.count < 1 {
+                    return left(bus);
+                }
+                mem[at] = pending.newest;
+                next.pointer = moved(Move::Down, pointer);
+                Told {
+                    bus: next,
+                    done: true,
+                }
+            }
+            0xc3 => {
+                next.latch = mem[at];
+                next.pointer = moved(Move::Down, pointer);
+                Told {
+                    bus: next,
+                    done: true,
+                }
+            }
+            0xc4 => {
+                if pending.count < 1 {
+                    return left(bus);
+                }
+                mem[at] = pending.newest;
+                Told {
+                    bus: next,
+                    done: true,
+                }
+            }
+            0xc5 => {
+                next.latch = mem[at];
+                Told {
+                    bus: next,
+                    done: true,
+                }
+            }
+            _ => {
+                if code < 0xf0 {
+                    return left(bus);
+                }
+                let low = code % 16;
+                mem[at] = with_bit(mem[at], low, (low >> 3) % 2 == 1);
+                Told {
+                    bus: next,
+                    done: true,
+                }
+            }
+        }
+    } else {
+        left(bus)
+    }
+}
+
+// A command of the display alone, done or left as it was.
+pub(crate) struct Drawn {
+    pub display: Display,
+    pub done: bool,
+}
+
+fn undrawn(display: Display) -> Drawn
+    ensures { λ r. ⌜ r ≡ record { display = display; done = false } ⌝ }
+{
+    Drawn {
+        display,
+        done: false,
+    }
+}
+
+fn mixed(display: Display, external: bool, combination: Combination) -> Drawn
+    ensures { λ r. ⌜ r ≡ record { display = withMode display external combination; done = true } ⌝ }
+{
+    Drawn {
+        display: with_mode(display, external, combination),
+        done: true,
+    }
+}
+
+// The commands that need no data and change the display alone: mode, display bits, cursor height. Any other is left to `turn`.
+fn draw(display: Display, quiet: bool, code: u8) -> Drawn
+    ensures { λ r. ⌜ Draws display quiet code r ⌝ }
+{
+    let mut next = display;
+    let high = code / 16;
+    let low = code % 16;
+    if quiet {
+        match high {
+            8 => {
+                let external = (low >> 3) % 2 == 1;
+                let kind = low % 8;
+                match kind {
+                    0 => mixed(display, external, Combination::Or),
+                    1 => mixed(display, external, Combination::Exor),
+                    3 => mixed(display, external, Combination::And),
+                    4 => mixed(display, external, Combination::Attribute),
+                    _ => undrawn(display),
+                }
+            }
+            9 => {
+                let shows = Shows {
+                    graphic: (low >> 3) % 2 == 1,
+                    text: (low >> 2) % 2 == 1,
+                    cursor: (low >> 1) % 2 == 1,
+                    blink: (low >> 0) % 2 == 1,
+                };
+                next.shows = shows;
+                Drawn {
+                    display: next,
+                    done: true,
+                }
+            }
+            10 => {
+                if low < 8 {
+                    let height = low + 1;
+                    next.cursor.height = height;
+                    Drawn {
+                        display: next,
+                        done: true,
+                    }
+                } else {
+                    undrawn(display)
+                }
+            }
+            _ => undrawn(display),
+        }
+    } else {
+        undrawn(display)
+    }
+}
+
+// The data from a place on, as they follow one another, stored from an address on: the place of the first pair behind them.
+fn block(mem: &mut [u8], start: u16, log: &[u8], from: usize, total: usize) -> usize
+    requires { ⌜ length (now mem) ≡ 65536 ⌝ }
+    requires { ⌜ (2 * total ≤ length (now log)) × (from ≤ total) ⌝ }
+    ensures { λ r. ⌜ Blocked (now (mem .entry)) start (now (log .entry)) from total (now (mem .exit)) r ⌝ }
+{
+    let mut pointer = start;
+    let mut i = from;
+    while i < total {
+        if log[2 * i] != 0 {
+            return i;
+        }
+        let at = pointer as usize;
+        mem[at] = log[2 * i + 1];
+        pointer = std::num::wrapping_add_u16(pointer, 1);
+        i += 1;
+    }
+    i
+}
+
 // The first `total` pairs of a log, on a machine that is known to be valid.
 fn pairs(
     panel: Panel,
@@ -134,15 +357,79 @@ fn pairs(
     requires { ⌜ 2 * total ≤ length (now log) ⌝ }
     ensures { λ r. ⌜ ranAll r (now (mem .exit)) (now (answers .exit)) ≡ ranOf (runFrom (stepOf panel (now (rom .entry))) 0 (take total (pairsOf (now (log .entry)))) (standing registers (now (mem .entry)) (now (answers .entry)) 0)) ⌝ }
 {
-    let mut current = registers;
+    let mut display = registers.display;
+    let mut bus = registers.bus;
     let mut given: usize = 0;
     let mut i: usize = 0;
     while i < total {
         let kind = log[2 * i];
         let byte = log[2 * i + 1];
-        let turned = turn(panel, current, mem, rom, answers, given, kind, byte);
+        let auto = bus.auto;
+        if (kind == 0) & is_write(auto) {
+            let end = block(mem, bus.pointer, log, i, total);
+            bus.pointer = std::num::wrapping_add_u16(bus.pointer, ((end - i) % 65536) as u16);
+            i = end;
+            continue;
+        }
+        let off = is_off(auto);
+        if (kind == 0) & off {
+            let pending = bus.pending;
+            let pushed = push(pending, byte);
+            bus.pending = pushed;
+            i += 1;
+            continue;
+        }
+        let room = given < answers.len();
+        if (kind == 3) & room {
+            answers[given] = state(bus, display.phase);
+            given += 1;
+            i += 1;
+            continue;
+        }
+        let quiet = (kind == 1) & off;
+        let told = tell(bus, mem, quiet, byte);
+        if told.done {
+            bus = told.bus;
+            i += 1;
+            continue;
+        }
+        let drawn = draw(display, quiet, byte);
+        if drawn.done {
+            let none = Pending {
+                count: 0,
+                older: 0,
+                newest: 0,
+            };
+            display = drawn.display;
+            bus.pending = none;
+            i += 1;
+            continue;
+        }
+        if (kind == 2) & room & off {
+            answers[given] = bus.latch;
+            given += 1;
+            i += 1;
+            continue;
+        }
+        if kind == 4 {
+            display.phase = !display.phase;
+            i += 1;
+            continue;
+        }
+        let turned = turn(
+            panel,
+            Registers { display, bus },
+            mem,
+            rom,
+            answers,
+            given,
+            kind,
+            byte,
+        );
         let number = turned.number;
-        current = turned.registers;
+        let after = turned.registers;
+        display = after.display;
+        bus = after.bus;
         given = turned.given;
         if number != 0 {
             return Ran {
@@ -150,7 +437,7 @@ fn pairs(
                 place: i,
                 taken: i,
                 answers: given,
-                registers: current,
+                registers: Registers { display, bus },
             };
         }
         i += 1;
@@ -160,7 +447,7 @@ fn pairs(
         place: 0,
         taken: i,
         answers: given,
-        registers: current,
+        registers: Registers { display, bus },
     }
 }
 

@@ -1,9 +1,15 @@
 -- `pairs` meets its contract: what is left from here always comes to the whole.
 use borrow.Author.Needs.{needs}
-use Prim.Native.Nat.{_-_}
+use borrow.Author.Tests.{eqb-true, ltb-true}
+use Prim.Native.Nat.{_-_, _*_}
 use native.Mathlib.Omega.{arith}
+use mathlib.Core.Bool.{_&&_}
+use lib.Dec.{eqb, ltb}
+use lib.ListN.{length, getD}
+use Rattle.ground.proofs.Tests.{both-left, both-right}
 use Rattle.controller.specs.Ready.{standing}
-use Rattle.controller.proofs.Goings.{Going, going, going-runs, going-on, going-stops, going-ends}
+use Rattle.controller.proofs.Blocks.{block-moves}
+use Rattle.controller.proofs.Goings.{Going, going, going-runs, going-on, going-stops, going-ends, going-block, going-kept, going-pushes, going-states, going-tells, going-draws, going-reads, going-ticks}
 use Rattle.controller.proofs.Laws.{sounds}
 use Rattle.controller.proofs.Readied.{runs-lengths}
 use mathlib.Core.Path.{refl, sym, _∙_}
@@ -11,62 +17,159 @@ use Rattle.controller.proofs.run.pairs.Statement.{statement}
 use Rattle.controller.proofs.run.pairs.Tie as tie
 
 abbrev Inv-loop : tie.InvT-loop
-Inv-loop panel mem₀ rom log total answers₀ current₀ given₀ i₀ mem answers current given i =
-    Going panel rom log total (standing current₀ mem₀ answers₀ given₀) (standing current mem answers given) i
+Inv-loop panel mem₀ rom log total answers₀ display₀ bus₀ given₀ i₀ mem answers display bus given i = Going panel rom log total (standing (record { display = display₀; bus = bus₀ }) mem₀ answers₀ given₀) (standing (record { display = display; bus = bus }) mem answers given) i
 
 abbrev μ-loop : tie.MeasureT-loop
-μ-loop panel mem₀ rom log total answers₀ current₀ given₀ i₀ mem answers current given i = total - i
+μ-loop panel mem₀ rom log total answers₀ display₀ bus₀ given₀ i₀ mem answers display bus given i = total - i
 
 loop-holds : tie.Need-loop-holds Inv-loop μ-loop
 loop-holds c =
-    let s = c .before .before .before .before in
+    let s = c .before .before .before .before .before .before in
     going (s .args .panel) (s .args .rom .now) (s .args .log .now) (s .args .total) (standing (s .args .registers) (s .args .mem .now) (s .args .answers .now) 0)
     (sounds (s .args .registers) (s .args .mem .now) (s .pre .0 .state) (runs-lengths (s .pre .0) .0))
 
 mul-kind : tie.Need-mul-kind Inv-loop μ-loop
-mul-kind c = omega (arith, c .before .before .before .before .before .before .pre .1, c .before .before .before .before .before .before .good)
+mul-kind c = omega (arith, c .before .before .before .before .before .before .before .before .pre .1, c .before .before .before .before .before .before .before .before .good)
 
 shared-slice-read-kind : tie.Need-shared-slice-read-kind Inv-loop μ-loop
-shared-slice-read-kind c = omega (arith, c .before .before .before .before .before .before .before .pre .1)
+shared-slice-read-kind c = omega (arith, c .before .before .before .before .before .before .before .before .before .pre .1)
 
 mul-byte : tie.Need-mul-byte Inv-loop μ-loop
-mul-byte c = omega (arith, c .before .before .before .before .before .before .before .pre .1, c .before .before .before .before .before .before .before .good)
+mul-byte c = omega (arith, c .before .before .before .before .before .before .before .before .before .pre .1, c .before .before .before .before .before .before .before .before .before .good)
 
 add-byte : tie.Need-add-byte Inv-loop μ-loop
-add-byte c = omega (arith, c .before .before .before .before .before .before .before .pre .1, c .before .before .before .before .before .before .before .good)
+add-byte c = omega (arith, c .before .before .before .before .before .before .before .before .before .pre .1, c .before .before .before .before .before .before .before .before .before .good)
 
 shared-slice-read-byte : tie.Need-shared-slice-read-byte Inv-loop μ-loop
-shared-slice-read-byte c = omega (arith, c .before .before .before .before .before .before .before .before .pre .1)
+shared-slice-read-byte c = omega (arith, c .before .before .before .before .before .before .before .before .before .before .pre .1)
+
+is-write-requires : tie.Need-is-write-requires Inv-loop μ-loop
+is-write-requires c κs = search needs
+
+block-requires : tie.Need-block-requires Inv-loop μ-loop
+block-requires c κs = (c .before .before .before .before .before .before .loop .inv .sound .memory, (c .before .before .before .before .before .before .before .before .before .before .before .before .before .pre .1, c .before .before .before .before .before .before .loop .inv .inside))
+
+sub-wrapping-add-u16 : tie.Need-sub-wrapping-add-u16 Inv-loop μ-loop
+sub-wrapping-add-u16 c = omega (arith, c .before .before .block .ensures .reaches)
+
+cast-wrapping-add-u16 : tie.Need-cast-wrapping-add-u16 Inv-loop μ-loop
+cast-wrapping-add-u16 c = omega arith
+
+wrapping-add-u16-requires : tie.Need-wrapping-add-u16-requires Inv-loop μ-loop
+wrapping-add-u16-requires c κs = search needs
+
+loop-less : tie.Need-loop-less Inv-loop μ-loop
+loop-less c = let h = block-moves (c .before .before .before .block .ensures) (c .before .before .before .before .before .before .before .before .before .loop-test .taken) (c .before .before .before .before .before .before .before .before .before .before .before .before .before .before .before .before .before .pre .1) (eqb-true _ 0 (both-left _ (c .before .before .before .before .before .before .is-write .result) (c .before .before .before .before .before .if1 .taken))) in omega (arith, c .before .before .before .block .ensures .inside, h)
+
+loop-again : tie.Need-loop-again Inv-loop μ-loop
+loop-again c = going-block (c .before .before .before .before .before .before .before .before .before .before .loop .inv) (c .before .before .before .before .before .before .is-write .ensures) (both-right (eqb (getD (c .before .before .before .before .before .before .before .before .before .before .before .before .before .before .before .before .before .args .log .now) (2 * c .before .before .before .before .before .before .before .before .before .before .loop .i) 0) 0) (c .before .before .before .before .before .before .is-write .result) (c .before .before .before .before .before .if1 .taken)) (c .before .before .before .block .ensures) (c .wrapping-add-u16 .ensures)
+
+is-off-requires : tie.Need-is-off-requires Inv-loop μ-loop
+is-off-requires c κs = search needs
+
+push-requires : tie.Need-push-requires Inv-loop μ-loop
+push-requires c κs = search needs
+
+add-i : tie.Need-add-i Inv-loop μ-loop
+add-i c = omega (arith, c .before .before .before .before .before .before .before .before .loop-test .taken, c .before .before .before .before .before .before .before .before .before .before .before .before .before .before .before .before .pre .1, c .before .before .before .before .before .before .before .before .before .before .before .before .before .before .before .before .good)
+
+loop-less-2 : tie.Need-loop-less-2 Inv-loop μ-loop
+loop-less-2 c = omega (arith, c .before .before .before .before .before .before .before .before .loop-test .taken)
+
+loop-again-2 : tie.Need-loop-again-2 Inv-loop μ-loop
+loop-again-2 c = going-pushes (c .before .before .before .before .before .before .before .before .before .loop .inv) (c .before .before .before .before .before .before .before .before .loop-test .taken) (c .before .before .before .before .before .before .before .before .before .before .before .before .before .before .before .before .pre .1) (c .before .before .before .is-off .ensures) (c .before .before .if2 .taken) (c .push .ensures)
+
+state-requires : tie.Need-state-requires Inv-loop μ-loop
+state-requires c κs = search needs
+
+slice-write-answers : tie.Need-slice-write-answers Inv-loop μ-loop
+slice-write-answers c = omega (arith, ltb-true (c .before .before .before .before .before .before .before .before .before .loop .given) (length (c .before .before .before .before .before .before .before .before .before .loop .answers)) (both-right (eqb (getD (c .before .before .before .before .before .before .before .before .before .before .before .before .before .before .before .before .args .log .now) (2 * c .before .before .before .before .before .before .before .before .before .loop .i) 0) 3) (ltb (c .before .before .before .before .before .before .before .before .before .loop .given) (length (c .before .before .before .before .before .before .before .before .before .loop .answers))) (c .before .if3 .taken)))
+
+add-given : tie.Need-add-given Inv-loop μ-loop
+add-given c = omega (arith, ltb-true (c .before .before .before .before .before .before .before .before .before .loop .given) (length (c .before .before .before .before .before .before .before .before .before .loop .answers)) (both-right (eqb (getD (c .before .before .before .before .before .before .before .before .before .before .before .before .before .before .before .before .args .log .now) (2 * c .before .before .before .before .before .before .before .before .before .loop .i) 0) 3) (ltb (c .before .before .before .before .before .before .before .before .before .loop .given) (length (c .before .before .before .before .before .before .before .before .before .loop .answers))) (c .before .if3 .taken)), c .before .before .before .before .before .before .before .before .before .loop .inv .room, c .before .before .before .before .before .before .before .before .before .before .before .before .before .before .before .before .good)
+
+add-i-2 : tie.Need-add-i-2 Inv-loop μ-loop
+add-i-2 c = omega (arith, c .before .before .before .before .before .before .before .before .loop-test .taken, c .before .before .before .before .before .before .before .before .before .before .before .before .before .before .before .before .pre .1, c .before .before .before .before .before .before .before .before .before .before .before .before .before .before .before .before .good)
+
+loop-less-3 : tie.Need-loop-less-3 Inv-loop μ-loop
+loop-less-3 c = omega (arith, c .before .before .before .before .before .before .before .before .loop-test .taken)
+
+loop-again-3 : tie.Need-loop-again-3 Inv-loop μ-loop
+loop-again-3 c = going-states (c .before .before .before .before .before .before .before .before .before .loop .inv) (c .before .before .before .before .before .before .before .before .loop-test .taken) (c .before .before .before .before .before .before .before .before .before .before .before .before .before .before .before .before .pre .1) (c .before .if3 .taken) (c .state .ensures)
+
+tell-requires : tie.Need-tell-requires Inv-loop μ-loop
+tell-requires c κs = c .before .before .before .before .before .before .before .before .before .loop .inv .sound .memory
+
+add-i-3 : tie.Need-add-i-3 Inv-loop μ-loop
+add-i-3 c = omega (arith, c .before .before .before .before .before .before .before .before .before .before .before .before .before .loop-test .taken, c .before .before .before .before .before .before .before .before .before .before .before .before .before .before .before .before .before .before .before .before .before .pre .1, c .before .before .before .before .before .before .before .before .before .before .before .before .before .before .before .before .before .before .before .before .before .good)
+
+loop-less-4 : tie.Need-loop-less-4 Inv-loop μ-loop
+loop-less-4 c = omega (arith, c .before .before .before .before .before .before .before .before .before .before .before .before .before .loop-test .taken)
+
+loop-again-4 : tie.Need-loop-again-4 Inv-loop μ-loop
+loop-again-4 c = going-tells (c .before .before .before .before .before .before .before .before .before .before .before .before .before .before .loop .inv) (c .before .before .before .before .before .before .before .before .before .before .before .before .before .loop-test .taken) (c .before .before .before .before .before .before .before .before .before .before .before .before .before .before .before .before .before .before .before .before .before .pre .1) (c .before .before .before .before .before .before .before .before .is-off .ensures) (c .before .before .before .before .tell .ensures) (c .before .if4 .taken)
+
+draw-requires : tie.Need-draw-requires Inv-loop μ-loop
+draw-requires c κs = search needs
+
+add-i-4 : tie.Need-add-i-4 Inv-loop μ-loop
+add-i-4 c = omega (arith, c .before .before .before .before .before .before .before .before .before .before .before .before .before .before .before .loop-test .taken, c .before .before .before .before .before .before .before .before .before .before .before .before .before .before .before .before .before .before .before .before .before .before .before .pre .1, c .before .before .before .before .before .before .before .before .before .before .before .before .before .before .before .before .before .before .before .before .before .before .before .good)
+
+loop-less-5 : tie.Need-loop-less-5 Inv-loop μ-loop
+loop-less-5 c = omega (arith, c .before .before .before .before .before .before .before .before .before .before .before .before .before .before .before .loop-test .taken)
+
+loop-again-5 : tie.Need-loop-again-5 Inv-loop μ-loop
+loop-again-5 c = going-draws (going-kept (c .before .before .before .before .before .before .before .before .before .before .before .before .before .before .before .before .loop .inv) (c .before .before .before .before .before .before .tell .ensures .keeps (c .before .before .before .if4 .left))) (c .before .before .before .before .before .before .before .before .before .before .before .before .before .before .before .loop-test .taken) (c .before .before .before .before .before .before .before .before .before .before .before .before .before .before .before .before .before .before .before .before .before .before .before .pre .1) (c .before .before .before .before .before .before .before .before .before .before .is-off .ensures) (c .before .before .draw .ensures) (c .before .if5 .taken)
+
+slice-write-answers-2 : tie.Need-slice-write-answers-2 Inv-loop μ-loop
+slice-write-answers-2 c = omega (arith, ltb-true (c .before .before .before .before .before .before .before .before .before .before .before .before .before .before .before .before .loop .given) (length (c .before .before .before .before .before .before .before .before .before .before .before .before .before .before .before .before .loop .answers)) (both-right (eqb (getD (c .before .before .before .before .before .before .before .before .before .before .before .before .before .before .before .before .before .before .before .before .before .before .before .args .log .now) (2 * c .before .before .before .before .before .before .before .before .before .before .before .before .before .before .before .before .loop .i) 0) 2) (ltb (c .before .before .before .before .before .before .before .before .before .before .before .before .before .before .before .before .loop .given) (length (c .before .before .before .before .before .before .before .before .before .before .before .before .before .before .before .before .loop .answers))) (both-left (eqb (getD (c .before .before .before .before .before .before .before .before .before .before .before .before .before .before .before .before .before .before .before .before .before .before .before .args .log .now) (2 * c .before .before .before .before .before .before .before .before .before .before .before .before .before .before .before .before .loop .i) 0) 2 && (ltb (c .before .before .before .before .before .before .before .before .before .before .before .before .before .before .before .before .loop .given) (length (c .before .before .before .before .before .before .before .before .before .before .before .before .before .before .before .before .loop .answers)))) (c .before .before .before .before .before .before .before .before .before .before .is-off .result) (c .if6 .taken))))
+
+add-given-2 : tie.Need-add-given-2 Inv-loop μ-loop
+add-given-2 c = omega (arith, ltb-true (c .before .before .before .before .before .before .before .before .before .before .before .before .before .before .before .before .loop .given) (length (c .before .before .before .before .before .before .before .before .before .before .before .before .before .before .before .before .loop .answers)) (both-right (eqb (getD (c .before .before .before .before .before .before .before .before .before .before .before .before .before .before .before .before .before .before .before .before .before .before .before .args .log .now) (2 * c .before .before .before .before .before .before .before .before .before .before .before .before .before .before .before .before .loop .i) 0) 2) (ltb (c .before .before .before .before .before .before .before .before .before .before .before .before .before .before .before .before .loop .given) (length (c .before .before .before .before .before .before .before .before .before .before .before .before .before .before .before .before .loop .answers))) (both-left (eqb (getD (c .before .before .before .before .before .before .before .before .before .before .before .before .before .before .before .before .before .before .before .before .before .before .before .args .log .now) (2 * c .before .before .before .before .before .before .before .before .before .before .before .before .before .before .before .before .loop .i) 0) 2 && (ltb (c .before .before .before .before .before .before .before .before .before .before .before .before .before .before .before .before .loop .given) (length (c .before .before .before .before .before .before .before .before .before .before .before .before .before .before .before .before .loop .answers)))) (c .before .before .before .before .before .before .before .before .before .before .is-off .result) (c .if6 .taken))), c .before .before .before .before .before .before .before .before .before .before .before .before .before .before .before .before .loop .inv .room, c .before .before .before .before .before .before .before .before .before .before .before .before .before .before .before .before .before .before .before .before .before .before .before .good)
+
+add-i-5 : tie.Need-add-i-5 Inv-loop μ-loop
+add-i-5 c = omega (arith, c .before .before .before .before .before .before .before .before .before .before .before .before .before .before .before .loop-test .taken, c .before .before .before .before .before .before .before .before .before .before .before .before .before .before .before .before .before .before .before .before .before .before .before .pre .1, c .before .before .before .before .before .before .before .before .before .before .before .before .before .before .before .before .before .before .before .before .before .before .before .good)
+
+loop-less-6 : tie.Need-loop-less-6 Inv-loop μ-loop
+loop-less-6 c = omega (arith, c .before .before .before .before .before .before .before .before .before .before .before .before .before .before .before .loop-test .taken)
+
+loop-again-6 : tie.Need-loop-again-6 Inv-loop μ-loop
+loop-again-6 c = going-reads (going-kept (c .before .before .before .before .before .before .before .before .before .before .before .before .before .before .before .before .loop .inv) (c .before .before .before .before .before .before .tell .ensures .keeps (c .before .before .before .if4 .left))) (c .before .before .before .before .before .before .before .before .before .before .before .before .before .before .before .loop-test .taken) (c .before .before .before .before .before .before .before .before .before .before .before .before .before .before .before .before .before .before .before .before .before .before .before .pre .1) (c .before .before .before .before .before .before .before .before .before .before .is-off .ensures) (c .if6 .taken)
+
+add-i-6 : tie.Need-add-i-6 Inv-loop μ-loop
+add-i-6 c = omega (arith, c .before .before .before .before .before .before .before .before .before .before .before .before .before .before .before .before .before .loop-test .taken, c .before .before .before .before .before .before .before .before .before .before .before .before .before .before .before .before .before .before .before .before .before .before .before .before .before .pre .1, c .before .before .before .before .before .before .before .before .before .before .before .before .before .before .before .before .before .before .before .before .before .before .before .before .before .good)
+
+loop-less-7 : tie.Need-loop-less-7 Inv-loop μ-loop
+loop-less-7 c = omega (arith, c .before .before .before .before .before .before .before .before .before .before .before .before .before .before .before .before .before .loop-test .taken)
+
+loop-again-7 : tie.Need-loop-again-7 Inv-loop μ-loop
+loop-again-7 c = going-ticks (going-kept (c .before .before .before .before .before .before .before .before .before .before .before .before .before .before .before .before .before .before .loop .inv) (c .before .before .before .before .before .before .before .before .tell .ensures .keeps (c .before .before .before .before .before .if4 .left))) (c .before .before .before .before .before .before .before .before .before .before .before .before .before .before .before .before .before .loop-test .taken) (c .before .before .before .before .before .before .before .before .before .before .before .before .before .before .before .before .before .before .before .before .before .before .before .before .before .pre .1) (c .before .if7 .taken)
 
 turn-requires : tie.Need-turn-requires Inv-loop μ-loop
 turn-requires c κs =
-    let s = c .before .before .before .before .before .before .before .before .before .before in
-    going-runs (c .before .before .before .before .before .loop .inv) _ _ refl (s .pre .0 .panel) (runs-lengths (s .pre .0) .1)
+    let s = c .before .before .before .before .before .before .before .before .before .before .before .before .before .before .before .before .before .before .before .before .before .before .before .before .before .before in
+    going-runs (going-kept (c .before .before .before .before .before .before .before .before .before .before .before .before .before .before .before .before .before .before .before .loop .inv) (c .before .before .before .before .before .before .before .before .before .tell .ensures .keeps (c .before .before .before .before .before .before .if4 .left))) _ _ refl (s .pre .0 .panel) (runs-lengths (s .pre .0) .1)
 
 same-length : tie.Need-same-length Inv-loop μ-loop
-same-length c = omega (arith, c .before .before .before .before .before .before .before .before .before .before .before .before .loop .inv .sound .memory, runs-lengths (c .before .before .before .before .before .before .before .before .before .before .before .before .before .before .before .before .before .pre .0) .0)
+same-length c = omega (arith, c .before .before .before .before .before .before .before .before .before .before .before .before .before .before .before .before .before .before .before .before .before .before .before .before .before .before .before .before .loop .inv .sound .memory, runs-lengths (c .before .before .before .before .before .before .before .before .before .before .before .before .before .before .before .before .before .before .before .before .before .before .before .before .before .before .before .before .before .before .before .before .before .before .before .pre .0) .0)
 
 same-length-2 : tie.Need-same-length-2 Inv-loop μ-loop
-same-length-2 c = omega (arith, c .before .before .before .before .before .before .before .before .before .before .before .before .loop .inv .room)
+same-length-2 c = omega (arith, c .before .before .before .before .before .before .before .before .before .before .before .before .before .before .before .before .before .before .before .before .before .before .before .before .before .before .before .before .loop .inv .room)
 
 returns : tie.Need-returns Inv-loop μ-loop
-returns c =
-    let s = c .before .before .before .before .before .before .before .before .before .before .before .before .before .before .before .before .before in
-    going-stops (c .before .before .before .before .before .before .before .before .before .before .before .before .loop .inv) (c .before .before .before .before .before .before .before .before .before .before .before .loop-test .taken) (s .pre .1) (c .before .before .before .before .before .before .turn .ensures) (c .if1 .taken)
+returns c = going-stops (going-kept (c .before .before .before .before .before .before .before .before .before .before .before .before .before .before .before .before .before .before .before .before .before .before .before .before .before .before .before .before .loop .inv) (c .before .before .before .before .before .before .before .before .before .before .before .before .before .before .before .before .before .before .tell .ensures .keeps (c .before .before .before .before .before .before .before .before .before .before .before .before .before .before .before .if4 .left))) (c .before .before .before .before .before .before .before .before .before .before .before .before .before .before .before .before .before .before .before .before .before .before .before .before .before .before .before .loop-test .taken) (c .before .before .before .before .before .before .before .before .before .before .before .before .before .before .before .before .before .before .before .before .before .before .before .before .before .before .before .before .before .before .before .before .before .before .before .pre .1) (c .before .before .before .before .before .before .before .before .turn .ensures) (c .if8 .taken)
 
-add-i : tie.Need-add-i Inv-loop μ-loop
-add-i c = omega arith
+add-i-7 : tie.Need-add-i-7 Inv-loop μ-loop
+add-i-7 c = omega (arith, c .before .before .before .before .before .before .before .before .before .before .before .before .before .before .before .before .before .before .before .before .before .before .before .before .before .before .before .loop-test .taken, c .before .before .before .before .before .before .before .before .before .before .before .before .before .before .before .before .before .before .before .before .before .before .before .before .before .before .before .before .before .before .before .before .before .before .before .pre .1, c .before .before .before .before .before .before .before .before .before .before .before .before .before .before .before .before .before .before .before .before .before .before .before .before .before .before .before .before .before .before .before .before .before .before .before .good)
 
-loop-less : tie.Need-loop-less Inv-loop μ-loop
-loop-less c = omega arith
+loop-less-8 : tie.Need-loop-less-8 Inv-loop μ-loop
+loop-less-8 c = omega (arith, c .before .before .before .before .before .before .before .before .before .before .before .before .before .before .before .before .before .before .before .before .before .before .before .before .before .before .before .loop-test .taken)
 
-loop-again : tie.Need-loop-again Inv-loop μ-loop
-loop-again c =
-    let s = c .before .before .before .before .before .before .before .before .before .before .before .before .before .before .before .before .before in
-    going-on (c .before .before .before .before .before .before .before .before .before .before .before .before .loop .inv) (c .before .before .before .before .before .before .before .before .before .before .before .loop-test .taken) (s .pre .1) (c .before .before .before .before .before .before .turn .ensures) (c .if1 .left)
+loop-again-8 : tie.Need-loop-again-8 Inv-loop μ-loop
+loop-again-8 c = going-on (going-kept (c .before .before .before .before .before .before .before .before .before .before .before .before .before .before .before .before .before .before .before .before .before .before .before .before .before .before .before .before .loop .inv) (c .before .before .before .before .before .before .before .before .before .before .before .before .before .before .before .before .before .before .tell .ensures .keeps (c .before .before .before .before .before .before .before .before .before .before .before .before .before .before .before .if4 .left))) (c .before .before .before .before .before .before .before .before .before .before .before .before .before .before .before .before .before .before .before .before .before .before .before .before .before .before .before .loop-test .taken) (c .before .before .before .before .before .before .before .before .before .before .before .before .before .before .before .before .before .before .before .before .before .before .before .before .before .before .before .before .before .before .before .before .before .before .before .pre .1) (c .before .before .before .before .before .before .before .before .turn .ensures) (c .if8 .left)
 
 same-length-3 : tie.Need-same-length-3 Inv-loop μ-loop
-same-length-3 c = c .before .loop .inv .sound .memory ∙ sym (runs-lengths (c .before .before .before .before .before .before .pre .0) .0)
+same-length-3 c = c .before .loop .inv .sound .memory ∙ sym (runs-lengths (c .before .before .before .before .before .before .before .before .pre .0) .0)
 
 same-length-4 : tie.Need-same-length-4 Inv-loop μ-loop
 same-length-4 c = c .before .loop .inv .room
@@ -86,13 +189,47 @@ pairs-spec =
     mul-byte
     add-byte
     shared-slice-read-byte
+    is-write-requires
+    block-requires
+    sub-wrapping-add-u16
+    cast-wrapping-add-u16
+    wrapping-add-u16-requires
+    loop-less
+    loop-again
+    is-off-requires
+    push-requires
+    add-i
+    loop-less-2
+    loop-again-2
+    state-requires
+    slice-write-answers
+    add-given
+    add-i-2
+    loop-less-3
+    loop-again-3
+    tell-requires
+    add-i-3
+    loop-less-4
+    loop-again-4
+    draw-requires
+    add-i-4
+    loop-less-5
+    loop-again-5
+    slice-write-answers-2
+    add-given-2
+    add-i-5
+    loop-less-6
+    loop-again-6
+    add-i-6
+    loop-less-7
+    loop-again-7
     turn-requires
     same-length
     same-length-2
     returns
-    add-i
-    loop-less
-    loop-again
+    add-i-7
+    loop-less-8
+    loop-again-8
     same-length-3
     same-length-4
     returns-2)

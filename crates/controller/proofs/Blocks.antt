@@ -1,0 +1,152 @@
+-- A block of data in auto write: its bytes stored from the pointer on, and the pointer behind them.
+use mathlib.Core.Path.{_≡_, refl, ap, sym, subst, _∙_}
+use mathlib.Core.Bool.{Bool, true, false, cond, false≢true}
+use mathlib.Core.List.{List, [], _∷_}
+use Prim.Native.Nat.{ℕ, zero, suc, _+_, _-_, _*_, _%_, _<_, _≤_}
+use native.Mathlib.Numerals.{add-one}
+use native.Mathlib.Omega.{arith}
+use lib.Dec.{eqb}
+use lib.ListN.{length, getD, take, drop, set, length-set}
+use lib.Seq.{drop-drop}
+use borrow.Author.Tests.{eq-eqb, ne-eqb}
+use Rattle.ground.specs.Lists.{stored}
+use Rattle.controller.specs.Types.{Panel, Auto, Off, Write, Read, Registers}
+use Rattle.controller.specs.Effect.{withBus, withPointer, isWrite}
+use Rattle.controller.specs.Access.{Pair, Machine, machine, writeOf, stepOf}
+use Rattle.controller.specs.Run.{pairsOf, Run, turnOf, afterTurn, runFrom, short}
+use Rattle.controller.specs.Ready.{standing, pairsFrom, dataOf, Blocked}
+
+-- the pair at a place of a log
+abbrev pub pairAt : List ℕ → ℕ → Pair
+pairAt log i = record { kind = getD log (2 * i) 0; byte = getD log (2 * i + 1) 0 }
+
+pub pair-next : (log : List ℕ) (i : ℕ) → 2 * i + 1 < length log
+    → drop i (pairsOf log) ≡ pairAt log i ∷ drop (suc i) (pairsOf log)
+unfolding pairsOf
+pair-next [] i h = absurd (omega arith)
+pair-next (k ∷ []) i h = absurd (omega arith)
+pair-next (k ∷ (b ∷ log)) zero h = refl
+pair-next (k ∷ (b ∷ log)) (suc i) h =
+    let e : 2 * suc i ≡ suc (suc (2 * i)) = omega arith in
+    let f : 2 * suc i + 1 ≡ suc (suc (2 * i + 1)) = omega arith in
+    pair-next log i (omega arith)
+    ∙ (λ t. record { kind = getD (k ∷ (b ∷ log)) (sym e t) 0; byte = getD (k ∷ (b ∷ log)) (sym f t) 0 } ∷ drop (suc i) (pairsOf log))
+
+pub pairs-here : (log : List ℕ) (total i : ℕ) → i < total → 2 * total ≤ length log → pairsFrom log i total ≡ pairAt log i ∷ pairsFrom log (i + 1) total
+pairs-here log total i h l =
+    let e : total - i ≡ suc (total - (i + 1)) = omega arith in
+    (λ t. take (e t) (pair-next log i (omega arith) t)) ∙ (λ t. pairAt log i ∷ take (total - (i + 1)) (drop (sym (add-one i) t) (pairsOf log)))
+
+data-first : (q : Pair) (qs : List Pair) → q .kind ≡ 0 → dataOf (q ∷ qs) ≡ q .byte ∷ dataOf qs
+unfolding dataOf
+data-first q qs e = ap (λ (t : Bool). cond t (q .byte ∷ dataOf qs) []) (eq-eqb (q .kind) 0 e)
+
+data-none : (q : Pair) (qs : List Pair) → (q .kind ≡ 0 → ⊥) → dataOf (q ∷ qs) ≡ []
+unfolding dataOf
+data-none q qs e = ap (λ (t : Bool). cond t (q .byte ∷ dataOf qs) []) (ne-eqb (q .kind) 0 e)
+
+-- before pair i of a block: what is left from here comes to the whole
+pub record Blocking (m₀ : List ℕ) (start : ℕ) (log : List ℕ) (from total : ℕ) (m : List ℕ) (at i : ℕ) : Type 0 where
+  pub first : start < 65536
+  pub inside : i ≤ total
+  pub room : length m ≡ length m₀
+  pub low : at < 65536
+  pub left : stored m at (dataOf (pairsFrom log i total)) ≡ stored m₀ start (dataOf (pairsFrom log from total))
+  pub reach : i + length (dataOf (pairsFrom log i total)) ≡ from + length (dataOf (pairsFrom log from total))
+
+module _ {m₀ : List ℕ} {start : ℕ} {log : List ℕ} {from total : ℕ} {m : List ℕ} {at i : ℕ} (k : Blocking m₀ start log from total m at i) where
+  pub block-on : i < total → 2 * total ≤ length log → {b next : ℕ} → getD log (2 * i) 0 ≡ 0 → b ≡ getD log (2 * i + 1) 0 → next ≡ (at + 1) % 65536
+      → Blocking m₀ start log from total (set m at b) next (i + 1)
+  unfolding stored
+  block-on h l {b} {next} z e n =
+      let f = ap dataOf (pairs-here log total i h l) ∙ data-first (pairAt log i) (pairsFrom log (i + 1) total) z in
+      let long = ap length f in
+      record {
+        first = k .first;
+        inside = omega arith;
+        room = length-set m at b ∙ k .room;
+        low = omega arith;
+        left = (λ t. stored (set m at (e t)) (n t) (dataOf (pairsFrom log (i + 1) total))) ∙ sym (ap (stored m at) f) ∙ k .left;
+        reach = omega (arith, k .reach, long);
+      }
+
+  -- a pair of another kind, or none left
+  over : dataOf (pairsFrom log i total) ≡ [] → Blocked m₀ start log from total m i
+  unfolding stored
+  over f =
+      let none = ap length f in
+      record { low = k .first; inside = k .inside; holds = sym (ap (stored m at) f) ∙ k .left; reaches = omega (arith, k .reach, none) }
+
+  pub block-stops : i < total → 2 * total ≤ length log → (getD log (2 * i) 0 ≡ 0 → ⊥) → Blocked m₀ start log from total m i
+  block-stops h l z = over (ap dataOf (pairs-here log total i h l) ∙ data-none (pairAt log i) (pairsFrom log (i + 1) total) z)
+
+  pub block-ends : total ≤ i → Blocked m₀ start log from total m i
+  unfolding dataOf
+  block-ends h = over (ap (λ (n : ℕ). dataOf (take n (drop i (pairsOf log)))) (let e : total - i ≡ 0 = omega arith in e))
+
+-- a block that begins with a datum has it
+pub block-moves : {mem : List ℕ} {start : ℕ} {log : List ℕ} {from total : ℕ} {after : List ℕ} {end : ℕ} → Blocked mem start log from total after end
+    → from < total → 2 * total ≤ length log → getD log (2 * from) 0 ≡ 0 → from < end
+block-moves {mem} {start} {log} {from} {total} {after} {end} k h l z =
+    let long = ap length (ap dataOf (pairs-here log total from h l) ∙ data-first (pairAt log from) (pairsFrom log (from + 1) total) z) in
+    omega (arith, k .reaches, long)
+
+drop-take : {A : Type 0} (n m : ℕ) (l : List A) → drop n (take m l) ≡ take (m - n) (drop n l)
+drop-take zero m l = ap (λ (k : ℕ). take k l) (let e : m ≡ m - 0 = omega arith in e)
+drop-take (suc n) zero l = ap (λ (k : ℕ). take k (drop (suc n) l)) (let e : 0 ≡ 0 - suc n = omega arith in e)
+drop-take {A} (suc n) (suc m) [] = sym (take-none (suc m - suc n))
+  where
+    take-none : (k : ℕ) → _≡_ {A = List A} (take k []) []
+    take-none zero = refl
+    take-none (suc k) = refl
+drop-take (suc n) (suc m) (x ∷ l) = drop-take n m l ∙ ap (λ (k : ℕ). take k (drop n l)) (let e : m - n ≡ suc m - suc n = omega arith in e)
+
+pub pairs-behind : (log : List ℕ) (total i n : ℕ) → drop n (pairsFrom log i total) ≡ pairsFrom log (i + n) total
+pairs-behind log total i n =
+    drop-take n (total - i) (drop i (pairsOf log))
+    ∙ (λ t. take ((let e : total - i - n ≡ total - (i + n) = omega arith in e) t) (drop-drop n i (pairsOf log) t))
+
+pub write-only : (a : Auto) → isWrite a ≡ true → a ≡ Write
+write-only Off e = absurd (false≢true e)
+write-only Write e = refl
+write-only Read e = absurd (false≢true e)
+
+-- a run over a block of data in auto write: as many pairs on, its bytes stored, the pointer behind them
+module _ (p : Panel) (rom : List ℕ) where
+  none-run : (qs : List Pair) (k : ℕ) (r : Registers) (m a : List ℕ) (g : ℕ) → r .bus .pointer < 65536 → dataOf qs ≡ []
+      → runFrom (stepOf p rom) k qs (standing r m a g)
+      ≡ runFrom (stepOf p rom) (k + length (dataOf qs)) (drop (length (dataOf qs)) qs)
+      (standing (withBus r (withPointer (r .bus) ((r .bus .pointer + length (dataOf qs)) % 65536))) (stored m (r .bus .pointer) (dataOf qs)) a g)
+  unfolding stored
+  none-run qs k r m a g l e =
+      let i : k ≡ k + 0 = omega arith in
+      let j : r .bus .pointer ≡ (r .bus .pointer + 0) % 65536 = omega arith in
+      (λ t. runFrom (stepOf p rom) (i t) qs (standing (withBus r (withPointer (r .bus) (j t))) m a g))
+      ∙ (λ t. runFrom (stepOf p rom) (k + length (sym e t)) (drop (length (sym e t)) qs) (standing (withBus r (withPointer (r .bus) ((r .bus .pointer + length (sym e t)) % 65536))) (stored m (r .bus .pointer) (sym e t)) a g))
+
+  pub block-run : (qs : List Pair) (k : ℕ) (r : Registers) (m a : List ℕ) (g : ℕ) → r .bus .auto ≡ Write → r .bus .pointer < 65536
+      → runFrom (stepOf p rom) k qs (standing r m a g)
+      ≡ runFrom (stepOf p rom) (k + length (dataOf qs)) (drop (length (dataOf qs)) qs)
+      (standing (withBus r (withPointer (r .bus) ((r .bus .pointer + length (dataOf qs)) % 65536))) (stored m (r .bus .pointer) (dataOf qs)) a g)
+  unfolding runFrom dataOf stored
+  block-run [] k r m a g w l = none-run [] k r m a g l refl
+  block-run (q ∷ qs) k r m a g w l =
+      go (q .kind) (q .byte) (λ b. block-run qs (suc k) (withBus r (withPointer (r .bus) ((r .bus .pointer + 1) % 65536))) (set m (r .bus .pointer) b) a g w (omega arith))
+    where
+      go : (n b : ℕ)
+          → ((b : ℕ) → runFrom (stepOf p rom) (suc k) qs (standing (withBus r (withPointer (r .bus) ((r .bus .pointer + 1) % 65536))) (set m (r .bus .pointer) b) a g)
+          ≡ runFrom (stepOf p rom) (suc k + length (dataOf qs)) (drop (length (dataOf qs)) qs)
+          (standing (withBus r (withPointer (r .bus) (((r .bus .pointer + 1) % 65536 + length (dataOf qs)) % 65536))) (stored (set m (r .bus .pointer) b) ((r .bus .pointer + 1) % 65536) (dataOf qs)) a g))
+          → runFrom (stepOf p rom) k (record { kind = n; byte = b } ∷ qs) (standing r m a g)
+          ≡ runFrom (stepOf p rom) (k + length (dataOf (record { kind = n; byte = b } ∷ qs))) (drop (length (dataOf (record { kind = n; byte = b } ∷ qs))) (record { kind = n; byte = b } ∷ qs))
+          (standing (withBus r (withPointer (r .bus) ((r .bus .pointer + length (dataOf (record { kind = n; byte = b } ∷ qs))) % 65536))) (stored m (r .bus .pointer) (dataOf (record { kind = n; byte = b } ∷ qs))) a g)
+      go zero b rest =
+          let i : suc k + length (dataOf qs) ≡ k + suc (length (dataOf qs)) = omega arith in
+          let j : ((r .bus .pointer + 1) % 65536 + length (dataOf qs)) % 65536 ≡ (r .bus .pointer + suc (length (dataOf qs))) % 65536 = omega arith in
+          ap
+          (λ (x : Auto). afterTurn (turnOf (standing r m a g) (writeOf x (machine r m) b))
+          (λ t. runFrom (stepOf p rom) (suc k) qs t)
+          (λ n. record { standing = standing r m a g; taken = k; end = short n })) w
+          ∙ rest b
+          ∙ (λ t. runFrom (stepOf p rom) (i t) (drop (length (dataOf qs)) qs) (standing (withBus r (withPointer (r .bus) (j t))) (stored (set m (r .bus .pointer) b) ((r .bus .pointer + 1) % 65536) (dataOf qs)) a g))
+      go (suc n) b rest = none-run (record { kind = suc n; byte = b } ∷ qs) k r m a g l (data-none (record { kind = suc n; byte = b }) qs (λ e. omega arith))
