@@ -7,19 +7,20 @@ use native.Mathlib.Numerals.{add-one}
 use native.Mathlib.Omega.{arith}
 use lib.Dec.{ltb, eqb}
 use lib.ListN.{length, getD, take, drop, set, length-set}
-use borrow.Author.Tests.{eq-eqb, eqb-true}
+use borrow.Author.Tests.{eq-eqb, eqb-true, ltb-true}
 use Rattle.ground.specs.Lists.{stored}
 use Rattle.ground.proofs.Tests.{cond-has, both, both-left, both-right}
 use Rattle.ground.proofs.Stores.{stored-length}
 use Rattle.display.specs.State.{validPanel, none}
 use Rattle.codes.specs.Command.{isOff}
 use Rattle.display.specs.Frame.{lentLengths}
-use Rattle.controller.specs.Types.{Panel, Display, Auto, Off, Write, Read, Pending, Bus, Registers, Turned, Ran, Told, Drawn}
-use Rattle.controller.specs.Effect.{withBus, withPointer, withPending, withPhase, pushed, isWrite, stateOf}
+use Rattle.controller.specs.Types.{Panel, Display, Auto, Off, Write, Read, Pending, Bus, Registers, Turned, Ran, Told, Drawn, Up}
+use Rattle.controller.specs.Effect.{withBus, withPointer, withAuto, withLatch, withPending, withPhase, pushed, movedOf, isWrite, isRead, stateOf}
 use Rattle.controller.specs.Access.{Pair, Machine, machine, Step, done, answered, refused, writeOf, readOf, stepOf}
 use Rattle.controller.specs.Run.{pairsOf, Standing, Turn, went, halted, turnOf, End, whole, short, Run, afterTurn, runFrom, RanAll, ranAll, ranOf}
 use Rattle.controller.specs.Ready.{Runs, Tells, Draws, Blocked, pairsFrom, dataOf, standing, TurnedAll, turnedAll, turnedOf}
 use Rattle.controller.proofs.Blocks.{pairAt, pairs-here, pairs-behind, write-only, block-run}
+use Rattle.controller.proofs.Tells.{leaves}
 use Rattle.controller.proofs.Laws.{Sounds, sounds-valid, Leaves, step-sound}
 use Rattle.controller.proofs.Turns.{Answering, answers, declines, Acting, acts, refuses, step-answering, step-acting}
 
@@ -152,13 +153,15 @@ module _ {p : Panel} {rom log : List ℕ} {total : ℕ} {s₀ s : Standing Machi
           ∙ ap ranOf turned
 
   -- a block of data in auto write
-  pub going-block : {b : Bool} → b ≡ isWrite (s .machine .registers .bus .auto) → b ≡ true → {m : List ℕ} {end n : ℕ}
+  pub going-block : {b : Bool} → b ≡ isWrite (s .machine .registers .bus .auto) → (eqb (getD log (2 * i) 0) 0 && b) ≡ true
+      → {m : List ℕ} {end : ℕ} {next : Bus}
       → Blocked (s .machine .memory) (s .machine .registers .bus .pointer) log i total m end
-      → n ≡ (s .machine .registers .bus .pointer + (end - i) % 65536) % 65536
-      → Going p rom log total s₀ (standing (withBus (s .machine .registers) (withPointer (s .machine .registers .bus) n)) m (s .answers) (s .given)) end
-  going-block e w {m} {end} {n} k f =
-      let j : n ≡ (s .machine .registers .bus .pointer + length (dataOf (pairsFrom log i total))) % 65536 = omega (arith, f, k .reaches) in
-      record {
+      → next ≡ withPointer (s .machine .registers .bus) ((s .machine .registers .bus .pointer + (end - i)) % 65536)
+      → Going p rom log total s₀ (standing (withBus (s .machine .registers) next) m (s .answers) (s .given)) end
+  going-block {b} e w {m} {end} k f =
+      let j : (s .machine .registers .bus .pointer + (end - i)) % 65536 ≡ (s .machine .registers .bus .pointer + length (dataOf (pairsFrom log i total))) % 65536 = omega (arith, k .reaches) in
+      subst (λ (x : Bus). Going p rom log total s₀ (standing (withBus (s .machine .registers) x) m (s .answers) (s .given)) end) (sym f)
+      (record {
         inside = k .inside;
         sound = record { display = g .sound .display; bus = g .sound .bus; memory = ap length (k .holds) ∙ stored-length (s .machine .memory) _ _ ∙ g .sound .memory };
         room = g .room;
@@ -168,9 +171,9 @@ module _ {p : Panel} {rom log : List ℕ} {total : ℕ} {s₀ s : Standing Machi
             (λ (qs : List Pair). runFrom (stepOf p rom) (i + length (dataOf (pairsFrom log i total))) qs
             (standing (withBus (s .machine .registers) (withPointer (s .machine .registers .bus) ((s .machine .registers .bus .pointer + length (dataOf (pairsFrom log i total))) % 65536))) (stored (s .machine .memory) (s .machine .registers .bus .pointer) (dataOf (pairsFrom log i total))) (s .answers) (s .given)))
             (pairs-behind log total i (length (dataOf (pairsFrom log i total)))))
-            ∙ sym (block-run p rom (pairsFrom log i total) i (s .machine .registers) (s .machine .memory) (s .answers) (s .given) (write-only (s .machine .registers .bus .auto) (sym e ∙ w)) (k .low))
+            ∙ sym (block-run p rom (pairsFrom log i total) i (s .machine .registers) (s .machine .memory) (s .answers) (s .given) (write-only (s .machine .registers .bus .auto) (sym e ∙ both-right (eqb (getD log (2 * i) 0) 0) b w)) (k .low))
             ∙ g .left;
-      }
+      })
 
   -- the stated number reached
   pub going-ends : total ≤ i
@@ -186,11 +189,23 @@ off-only Off e = refl
 off-only Write e = absurd (false≢true e)
 off-only Read e = absurd (false≢true e)
 
+read-only : (a : Auto) → isRead a ≡ true → a ≡ Read
+read-only Off e = absurd (false≢true e)
+read-only Write e = absurd (false≢true e)
+read-only Read e = refl
+
 -- the pairs that are taken apart from the others
 module _ {p : Panel} {rom log : List ℕ} {total : ℕ} {s₀ : Standing Machine} {d : Display} {b : Bus} {m a : List ℕ} {n i : ℕ}
     (g : Going p rom log total s₀ (standing (record { display = d; bus = b }) m a n) i) where
   pub going-kept : {after : List ℕ} → after ≡ m → Going p rom log total s₀ (standing (record { display = d; bus = b }) after a n) i
   going-kept e = subst (λ (x : List ℕ). Going p rom log total s₀ (standing (record { display = d; bus = b }) x a n) i) (sym e) g
+
+  -- room for an answer, as the loop's tests have it
+  pub room-left : (k : ℕ) → (eqb (getD log (2 * i) 0) k && ltb n (length a)) ≡ true → n < length a
+  room-left k t = ltb-true n (length a) (both-right (eqb (getD log (2 * i) 0) k) (ltb n (length a)) t)
+
+  pub room-still : (k : ℕ) (r : Bool) → ((eqb (getD log (2 * i) 0) k && ltb n (length a)) && r) ≡ true → n < length a
+  room-still k r t = room-left k (both-left (eqb (getD log (2 * i) 0) k && ltb n (length a)) r t)
 
   module _ (h : i < total) (l : 2 * total ≤ length log) where
     pub going-states : (eqb (getD log (2 * i) 0) 3 && ltb n (length a)) ≡ true → {v : ℕ} → v ≡ stateOf b (d .phase)
@@ -201,6 +216,23 @@ module _ {p : Panel} {rom log : List ℕ} {total : ℕ} {s₀ : Standing Machine
 
     pub going-ticks : getD log (2 * i) 0 ≡ 4 → Going p rom log total s₀ (standing (record { display = withPhase d (not (d .phase)); bus = b }) m a n) (i + 1)
     going-ticks e = going-done g h l 4 e refl
+
+    pub going-leaves : (eqb (getD log (2 * i) 0) 1 && eqb (getD log (2 * i + 1) 0) 0xb2) ≡ true → {next : Bus} → next ≡ withAuto b Off
+        → Going p rom log total s₀ (standing (record { display = d; bus = withPending next none }) m a n) (i + 1)
+    going-leaves t f =
+        going-done g h l 1 (eqb-true (getD log (2 * i) 0) 1 (both-left (eqb (getD log (2 * i) 0) 1) (eqb (getD log (2 * i + 1) 0) 0xb2) t))
+        (leaves p rom m d b (getD log (2 * i + 1) 0)
+        (eqb-true (getD log (2 * i + 1) 0) 0xb2 (both-right (eqb (getD log (2 * i) 0) 1) (eqb (getD log (2 * i + 1) 0) 0xb2) t)) f)
+
+    pub going-fetches : {read : Bool} → read ≡ isRead (b .auto) → ((eqb (getD log (2 * i) 0) 2 && ltb n (length a)) && read) ≡ true → {next : Bus}
+        → next ≡ withPointer (withLatch b (getD m (b .pointer) 0)) (movedOf Up (b .pointer))
+        → Going p rom log total s₀ (standing (record { display = d; bus = withPointer b (next .pointer) }) m (set a n (next .latch)) (n + 1)) (i + 1)
+    going-fetches {read} e t f =
+        let u = both-left (eqb (getD log (2 * i) 0) 2 && ltb n (length a)) read t in
+        going-answers g h l 2 (eqb-true (getD log (2 * i) 0) 2 (both-left (eqb (getD log (2 * i) 0) 2) (ltb n (length a)) u))
+        (ap (λ (x : Auto). readOf x (machine (record { display = d; bus = b }) m)) (read-only (b .auto) (sym e ∙ both-right (eqb (getD log (2 * i) 0) 2 && ltb n (length a)) read t))
+        ∙ (λ t. answered (machine (record { display = d; bus = withPointer b (sym f t .pointer) }) m) (sym f t .latch)))
+        (both-right (eqb (getD log (2 * i) 0) 2) (ltb n (length a)) u)
 
     module _ {off : Bool} (e : off ≡ isOff (b .auto)) where
       pub going-pushes : (eqb (getD log (2 * i) 0) 0 && off) ≡ true → {q : Pending} → q ≡ pushed (b .pending) (getD log (2 * i + 1) 0)

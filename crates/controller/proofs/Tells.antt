@@ -11,8 +11,8 @@ use Rattle.ground.specs.Bytes.{wordOf, withBit}
 use Rattle.display.specs.State.{none}
 use Rattle.codes.specs.Command.{has, groupOf, decodeOf, neededOf, isOff, endsAuto}
 use Rattle.codes.specs.declared.command.Target.the-variants as target
-use Rattle.controller.specs.Types.{Panel, Shows, Or, Exor, And, Attribute, Combination, Display, Bus, Command, Set, Mode, Show, Height, Store, Load, Bit, Decoded, Defined, Undefined, Move, Told, Drawn}
-use Rattle.controller.specs.Effect.{withMode, withShows, withCursor, withPointer, withLatch, withPending, movedOf}
+use Rattle.controller.specs.Types.{Panel, Shows, Or, Exor, And, Attribute, Combination, Display, Auto, Off, Bus, Command, Set, Mode, Show, Height, Run, Store, Load, Bit, Decoded, Defined, Undefined, Move, Told, Drawn}
+use Rattle.controller.specs.Effect.{withMode, withShows, withCursor, withPointer, withAuto, withLatch, withPending, movedOf}
 use Rattle.controller.specs.Access.{code, machine, Step, done, refused, effectOf, dropped, commandOf, stepOf}
 use Rattle.controller.specs.Ready.{Tells, Draws}
 
@@ -29,6 +29,15 @@ taken p rom mem d b k c e o n =
     (λ (t : Bool). cond t (cond (leb (neededOf c) (b .pending .count)) (done (dropped (effectOf p rom (machine (record { display = d; bus = b }) mem) c))) (refused 6)) (refused 5))
     (ap (λ (t : Bool). endsAuto c || t) o ∙ either-true (endsAuto c))
     ∙ ap (λ (t : Bool). cond t (done (dropped (effectOf p rom (machine (record { display = d; bus = b }) mem) c))) (refused 6)) (le-leb (neededOf c) (b .pending .count) n)
+
+-- B2H, whatever auto is and whatever is pending
+pub leaves : (p : Panel) (rom mem : List ℕ) (d : Display) (b : Bus) (k : ℕ) → k ≡ 0xb2 → {next : Bus} → next ≡ withAuto b Off
+    → stepOf p rom (machine (record { display = d; bus = b }) mem) (code k) ≡ done (machine (record { display = d; bus = withPending next none }) mem)
+leaves p rom mem d b k e h =
+    ap (λ (j : ℕ). commandOf p rom (machine (record { display = d; bus = b }) mem) (decodeOf j)) e
+    ∙ ap (λ (t : Bool). cond t (done (dropped (effectOf p rom (machine (record { display = d; bus = b }) mem) (Run Off)))) (refused 6))
+    (le-leb 0 (b .pending .count) (omega arith))
+    ∙ (λ t. done (machine (record { display = d; bus = withPending (sym h t) none }) mem))
 
 bit-code : (k : ℕ) → 240 ≤ k → k < 256 → decodeOf k ≡ Defined (Bit (has (k % 16) 3) (k % 16))
 bit-code k l h = ap (λ (n : ℕ). groupOf n (k % 16)) (let e : k / 16 ≡ 15 = omega arith in e)
@@ -53,26 +62,35 @@ module _ {b : Bus} {mem : List ℕ} {still : Bool} {k : ℕ} where
         (λ o p rom d. taken p rom mem d b k (Set target.Pointer) (ap decodeOf e) o l
         ∙ (λ t. done (machine (record { display = d; bus = withPending (withPointer b (sym h t)) none }) mem)))
 
-    pub tells-store : (v : Move) → decodeOf k ≡ Defined (Store v) → 1 ≤ b .pending .count → {n : ℕ} → n ≡ movedOf v (b .pointer)
-        → Tells b mem still k (record { bus = withPending (withPointer b n) none; done = true }) (set mem (b .pointer) (b .pending .newest))
+    pub tells-auto : (a : Auto) → decodeOf k ≡ Defined (Run a) → {next : Bus} → next ≡ withAuto (withPending b none) a
+        → Tells b mem still k (record { bus = next; done = true }) mem
+    tells-auto a e h =
+        told
+        (λ o p rom d. taken p rom mem d b k (Run a) e o (omega arith)
+        ∙ (λ t. done (machine (record { display = d; bus = sym h t }) mem)))
+
+    pub tells-store : (v : Move) → decodeOf k ≡ Defined (Store v) → 1 ≤ b .pending .count → {next : Bus} {after : List ℕ}
+        → (next ≡ withPointer (withPending b none) (movedOf v (b .pointer))) × (after ≡ set mem (b .pointer) (b .pending .newest))
+        → Tells b mem still k (record { bus = next; done = true }) after
     tells-store v e l h =
         told
         (λ o p rom d. taken p rom mem d b k (Store v) e o l
-        ∙ (λ t. done (machine (record { display = d; bus = withPending (withPointer b (sym h t)) none }) (set mem (b .pointer) (b .pending .newest)))))
+        ∙ (λ t. done (machine (record { display = d; bus = sym (h .0) t }) (sym (h .1) t))))
 
-    pub tells-load : (v : Move) → decodeOf k ≡ Defined (Load v) → {n : ℕ} → n ≡ movedOf v (b .pointer)
-        → Tells b mem still k (record { bus = withPending (withPointer (withLatch b (getD mem (b .pointer) 0)) n) none; done = true }) mem
+    pub tells-load : (v : Move) → decodeOf k ≡ Defined (Load v) → {next : Bus}
+        → next ≡ withPointer (withLatch (withPending b none) (getD mem (b .pointer) 0)) (movedOf v (b .pointer))
+        → Tells b mem still k (record { bus = next; done = true }) mem
     tells-load v e h =
         told
         (λ o p rom d. taken p rom mem d b k (Load v) e o (omega arith)
-        ∙ (λ t. done (machine (record { display = d; bus = withPending (withPointer (withLatch b (getD mem (b .pointer) 0)) (sym h t)) none }) mem)))
+        ∙ (λ t. done (machine (record { display = d; bus = sym h t }) mem)))
 
-    pub tells-bit : 240 ≤ k → k < 256 → {v : ℕ} → v ≡ withBit (getD mem (b .pointer) 0) (k % 16 % 8) (has (k % 16) 3)
-        → Tells b mem still k (record { bus = withPending b none; done = true }) (set mem (b .pointer) v)
+    pub tells-bit : 240 ≤ k → k < 256 → {after : List ℕ} → after ≡ set mem (b .pointer) (withBit (getD mem (b .pointer) 0) (k % 16 % 8) (has (k % 16) 3))
+        → Tells b mem still k (record { bus = withPending b none; done = true }) after
     tells-bit l h e =
         told
         (λ o p rom d. taken p rom mem d b k (Bit (has (k % 16) 3) (k % 16)) (bit-code k l h) o (omega arith)
-        ∙ (λ t. done (machine (record { display = d; bus = withPending b none }) (set mem (b .pointer) (sym e t)))))
+        ∙ (λ t. done (machine (record { display = d; bus = withPending b none }) (sym e t))))
 
 -- the modes by their low bits
 abbrev pub modeBy : ℕ → ℕ → Decoded

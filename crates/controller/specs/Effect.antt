@@ -79,6 +79,11 @@ isWrite Off = false
 isWrite Write = true
 isWrite Read = false
 
+abbrev pub isRead : Auto → Bool
+isRead Off = false
+isRead Write = false
+isRead Read = true
+
 -- bits 0 and 1 unless auto, bit 2 in auto read, bit 3 in auto write (H for bits 0 and 1)
 abbrev pub autoBits : Auto → ℕ
 autoBits Off = 0b0011

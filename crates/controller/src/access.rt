@@ -8,8 +8,11 @@ ghost use Rattle.controller.specs.Access.{machine, effectOf, dropped, ob
 ghost use Rattle.controller.specs.Effect.{withDisplay, withBus, withPhase, withPending, statusOf};
 ghost use Rattle.controller.specs.Ready.{Ready};
 use crate::copy::copy;
+use crate::effect::change;
+use crate::effect::fetch;
 use crate::effect::moved;
 use crate::effect::push;
+use crate::effect::put;
 use crate::effect::set_target;
 use crate::effect::status;
 use crate::effect::with_auto;
@@ -26,7 +29,6 @@ use display::registers::Bus;
 use display::registers::Display;
 use display::registers::Pending;
 use display::registers::Registers;
-use ground::bytes::with_bit;
 
 // A number and place, the registers after, and the byte read or 0.
 pub struct Acted {
@@ -62,8 +64,6 @@ fn effect(
     let mut display = registers.display;
     let mut bus = registers.bus;
     let pending = bus.pending;
-    let pointer = bus.pointer;
-    let at = pointer as usize;
     match command {
         Command::Set(target) => set_target(target, pending.older, pending.newest, registers),
         Command::Mode(external, combination) => {
@@ -87,14 +87,12 @@ fn effect(
             next
         }
         Command::Store(direction) => {
-            mem[at] = pending.newest;
-            bus.pointer = moved(direction, pointer);
+            bus = put(bus, mem, pending.newest, direction);
             next.bus = bus;
             next
         }
         Command::Load(direction) => {
-            bus.latch = mem[at];
-            bus.pointer = moved(direction, pointer);
+            bus = fetch(bus, mem, direction);
             next.bus = bus;
             next
         }
@@ -105,7 +103,7 @@ fn effect(
         }
         Command::Copy => copy(panel, registers, mem, rom),
         Command::Bit(on, code) => {
-            mem[at] = with_bit(mem[at], code, on);
+            change(bus.pointer, mem, code, on);
             next
         }
     }

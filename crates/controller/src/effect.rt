@@ -2,8 +2,10 @@
 ghost use mathlib.Core.Path.{_≡_};
 ghost use mathlib.Core.Bool.{cond};
 ghost use lib.Dec.{ltb};
-ghost use Prim.Native.Nat.{_+_};
-ghost use Rattle.controller.specs.Effect.{withMode, withAuto, pushed, movedOf, setOf, isWrite, autoBits, stateOf, statusOf};
+ghost use lib.ListN.{length, getD, set};
+ghost use Prim.Native.Nat.{_+_, _%_};
+ghost use Rattle.ground.specs.Bytes.{withBit};
+ghost use Rattle.controller.specs.Effect.{withMode, withPointer, withAuto, withLatch, pushed, movedOf, setOf, isWrite, isRead, autoBits, stateOf, statusOf};
 use codes::command::Move;
 use codes::command::Target;
 use display::registers::Auto;
@@ -14,6 +16,7 @@ use display::registers::Display;
 use display::registers::Pending;
 use display::registers::Plane;
 use display::registers::Registers;
+use ground::bytes::with_bit;
 use ground::bytes::word;
 
 pub(crate) fn with_mode(display: Display, external: bool, combination: Combination) -> Display
@@ -77,6 +80,41 @@ pub(crate) fn moved(direction: Move, pointer: u16) -> u16
     }
 }
 
+// A byte stored where the pointer stands, the pointer moved.
+pub(crate) fn put(bus: Bus, mem: &mut [u8], byte: u8, direction: Move) -> Bus
+    requires { ⌜ length (now mem) ≡ 65536 ⌝ }
+    ensures { λ r. ⌜ (r ≡ withPointer bus (movedOf direction (bus .pointer))) × (now (mem .exit) ≡ set (now (mem .entry)) (bus .pointer) byte) ⌝ }
+{
+    let pointer = bus.pointer;
+    let at = pointer as usize;
+    let mut next = bus;
+    mem[at] = byte;
+    next.pointer = moved(direction, pointer);
+    next
+}
+
+// The byte where the pointer stands in the latch, the pointer moved.
+pub(crate) fn fetch(bus: Bus, mem: &[u8], direction: Move) -> Bus
+    requires { ⌜ length (now mem) ≡ 65536 ⌝ }
+    ensures { λ r. ⌜ r ≡ withPointer (withLatch bus (getD (now (mem .entry)) (bus .pointer) 0)) (movedOf direction (bus .pointer)) ⌝ }
+{
+    let pointer = bus.pointer;
+    let at = pointer as usize;
+    let mut next = bus;
+    next.latch = mem[at];
+    next.pointer = moved(direction, pointer);
+    next
+}
+
+// A bit of the byte where the pointer stands, set or reset.
+pub(crate) fn change(pointer: u16, mem: &mut [u8], code: u8, on: bool)
+    requires { ⌜ length (now mem) ≡ 65536 ⌝ }
+    ensures { λ r. ⌜ now (mem .exit) ≡ set (now (mem .entry)) pointer (withBit (getD (now (mem .entry)) pointer 0) (code % 8) on) ⌝ }
+{
+    let at = pointer as usize;
+    mem[at] = with_bit(mem[at], code, on);
+}
+
 // What the data D1 and D2 are taken for.
 pub(crate) fn set_target(target: Target, d1: u8, d2: u8, registers: Registers) -> Registers
     ensures { λ r. ⌜ r ≡ setOf target d1 d2 registers ⌝ }
@@ -135,6 +173,16 @@ pub(crate) fn is_write(auto: Auto) -> bool
         Auto::Off => false,
         Auto::Write => true,
         Auto::Read => false,
+    }
+}
+
+pub(crate) fn is_read(auto: Auto) -> bool
+    ensures { λ r. ⌜ r ≡ isRead auto ⌝ }
+{
+    match auto {
+        Auto::Off => false,
+        Auto::Write => false,
+        Auto::Read => true,
     }
 }
 

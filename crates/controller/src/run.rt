@@ -1,8 +1,8 @@
 // The run of a log.
 ghost use mathlib.Core.Path.{_≡_};
 ghost use mathlib.Core.Bool.{true, false};
-ghost use Rattle.controller.specs.Effect.{withMode};
-ghost use Prim.Native.Nat.{_*_, _≤_};
+ghost use Rattle.controller.specs.Effect.{withMode, withPointer};
+ghost use Prim.Native.Nat.{_+_, _*_, _%_, _≤_};
 ghost use lib.ListN.{length, take};
 ghost use Rattle.controller.specs.Access.{machine, stepOf};
 ghost use Rattle.controller.specs.Run.{turnOf, runFrom, ranOf, ranAll, runOf, pairsOf};
@@ -13,14 +13,19 @@ use crate::access::data_read;
 use crate::access::data_write;
 use crate::access::read_status;
 use crate::access::tick;
+use crate::effect::change;
+use crate::effect::fetch;
+use crate::effect::is_read;
 use crate::effect::is_write;
-use crate::effect::moved;
 use crate::effect::push;
+use crate::effect::put;
 use crate::effect::state;
+use crate::effect::with_auto;
 use crate::effect::with_mode;
 use codes::command::Move;
 use codes::command::is_off;
 use display::panel::Panel;
+use display::registers::Auto;
 use display::registers::Bus;
 use display::registers::Combination;
 use display::registers::Display;
@@ -28,7 +33,6 @@ use display::registers::Pending;
 use display::registers::Registers;
 use display::registers::Shows;
 use ground::bytes::lesser;
-use ground::bytes::with_bit;
 use ground::bytes::word;
 
 // A number and place, the pairs taken, the answers written, the registers after.
@@ -148,14 +152,12 @@ fn left(bus: Bus) -> Told
     Told { bus, done: false }
 }
 
-// The commands that a drawing program sends most: pointer, stores, loads and bits, where they are taken. Any other is left to `turn`.
+// The commands that a drawing program sends most: pointer, auto, stores, loads and bits, where they are taken. Any other is left to `turn`.
 fn tell(bus: Bus, mem: &mut [u8], quiet: bool, code: u8) -> Told
     requires { ⌜ length (now mem) ≡ 65536 ⌝ }
     ensures { λ r. ⌜ Tells bus (now (mem .entry)) quiet code r (now (mem .exit)) ⌝ }
 {
     let pending = bus.pending;
-    let pointer = bus.pointer;
-    let at = pointer as usize;
     let none = Pending {
         count: 0,
         older: 0,
@@ -175,67 +177,59 @@ fn tell(bus: Bus, mem: &mut [u8], quiet: bool, code: u8) -> Told
                     done: true,
                 }
             }
+            0xb0 => Told {
+                bus: with_auto(next, Auto::Write),
+                done: true,
+            },
+            0xb1 => Told {
+                bus: with_auto(next, Auto::Read),
+                done: true,
+            },
             0xc0 => {
                 if pending.count < 1 {
                     return left(bus);
                 }
-                mem[at] = pending.newest;
-                next.pointer = moved(Move::Up, pointer);
                 Told {
-                    bus: next,
+                    bus: put(next, mem, pending.newest, Move::Up),
                     done: true,
                 }
             }
-            0xc1 => {
-                next.latch = mem[at];
-                next.pointer = moved(Move::Up, pointer);
-                Told {
-                    bus: next,
-                    done: true,
-                }
-            }
+            0xc1 => Told {
+                bus: fetch(next, mem, Move::Up),
+                done: true,
+            },
             0xc2 => {
                 if pending.count < 1 {
                     return left(bus);
                 }
-                mem[at] = pending.newest;
-                next.pointer = moved(Move::Down, pointer);
                 Told {
-                    bus: next,
+                    bus: put(next, mem, pending.newest, Move::Down),
                     done: true,
                 }
             }
-            0xc3 => {
-                next.latch = mem[at];
-                next.pointer = moved(Move::Down, pointer);
-                Told {
-                    bus: next,
-                    done: true,
-                }
-            }
+            0xc3 => Told {
+                bus: fetch(next, mem, Move::Down),
+                done: true,
+            },
             0xc4 => {
                 if pending.count < 1 {
                     return left(bus);
                 }
-                mem[at] = pending.newest;
                 Told {
-                    bus: next,
+                    bus: put(next, mem, pending.newest, Move::Stay),
                     done: true,
                 }
             }
-            0xc5 => {
-                next.latch = mem[at];
-                Told {
-                    bus: next,
-                    done: true,
-                }
-            }
+            0xc5 => Told {
+                bus: fetch(next, mem, Move::Stay),
+                done: true,
+            },
             _ => {
                 if code < 0xf0 {
                     return left(bus);
                 }
                 let low = code % 16;
-                mem[at] = with_bit(mem[at], low, (low >> 3) % 2 == 1);
+                change(bus.pointer, mem, low, (low >> 3) % 2 == 1);
                 Told {
                     bus: next,
                     done: true,
@@ -343,6 +337,22 @@ fn block(mem: &mut [u8], start: u16, log: &[u8], from: usize, total: usize) -> u
     i
 }
 
+// The pointer behind a block of so many data, all else as it was: data pending from before stay.
+fn passed(bus: Bus, count: usize) -> Bus
+    ensures { λ r. ⌜ r ≡ withPointer bus ((bus .pointer + count) % 65536) ⌝ }
+{
+    let auto = bus.auto;
+    let pending = bus.pending;
+    let far = (count % 65536) as u16;
+    Bus {
+        auto,
+        pointer: std::num::wrapping_add_u16(bus.pointer, far),
+        pending,
+        latch: bus.latch,
+        error: bus.error,
+    }
+}
+
 // The first `total` pairs of a log, on a machine that is known to be valid.
 fn pairs(
     panel: Panel,
@@ -367,7 +377,7 @@ fn pairs(
         let auto = bus.auto;
         if (kind == 0) & is_write(auto) {
             let end = block(mem, bus.pointer, log, i, total);
-            bus.pointer = std::num::wrapping_add_u16(bus.pointer, ((end - i) % 65536) as u16);
+            bus = passed(bus, end - i);
             i = end;
             continue;
         }
@@ -405,8 +415,27 @@ fn pairs(
             i += 1;
             continue;
         }
+        if (kind == 1) & (byte == 0xb2) {
+            let none = Pending {
+                count: 0,
+                older: 0,
+                newest: 0,
+            };
+            bus = with_auto(bus, Auto::Off);
+            bus.pending = none;
+            i += 1;
+            continue;
+        }
         if (kind == 2) & room & off {
             answers[given] = bus.latch;
+            given += 1;
+            i += 1;
+            continue;
+        }
+        if (kind == 2) & room & is_read(auto) {
+            let fetched = fetch(bus, mem, Move::Up);
+            answers[given] = fetched.latch;
+            bus.pointer = fetched.pointer;
             given += 1;
             i += 1;
             continue;

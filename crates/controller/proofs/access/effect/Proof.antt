@@ -3,9 +3,6 @@ use borrow.Author.Needs.{needs}
 use Rattle.controller.proofs.access.effect.Statement.{statement}
 use Rattle.controller.proofs.access.effect.Tie as tie
 
-cast-at : tie.Need-cast-at
-cast-at c = search needs
-
 enum-known-command : tie.Need-enum-known-command
 enum-known-command c = search needs
 
@@ -33,20 +30,14 @@ with-auto-requires c κs = search needs
 enum-known-command-6 : tie.Need-enum-known-command-6
 enum-known-command-6 c = search needs
 
-slice-write-mem : tie.Need-slice-write-mem
-slice-write-mem c = search needs
-
-moved-requires : tie.Need-moved-requires
-moved-requires c κs = search needs
+put-requires : tie.Need-put-requires
+put-requires c κs = search needs
 
 enum-known-command-7 : tie.Need-enum-known-command-7
 enum-known-command-7 c = search needs
 
-slice-read-bus : tie.Need-slice-read-bus
-slice-read-bus c = search needs
-
-moved-requires-2 : tie.Need-moved-requires-2
-moved-requires-2 c κs = search needs
+fetch-requires : tie.Need-fetch-requires
+fetch-requires c κs = search needs
 
 enum-told : tie.Need-enum-told
 enum-told c = search needs
@@ -63,14 +54,8 @@ copy-requires c κs = search needs
 enum-known-command-8 : tie.Need-enum-known-command-8
 enum-known-command-8 c = search needs
 
-slice-read-with-bit : tie.Need-slice-read-with-bit
-slice-read-with-bit c = search needs
-
-with-bit-requires : tie.Need-with-bit-requires
-with-bit-requires c κs = search needs
-
-slice-write-mem-2 : tie.Need-slice-write-mem-2
-slice-write-mem-2 c = search needs
+change-requires : tie.Need-change-requires
+change-requires c κs = search needs
 
 returns : tie.Need-returns
 returns c = rw (c .before .before .command .given .1, c .set-target .ensures)
@@ -91,34 +76,36 @@ same-length : tie.Need-same-length
 same-length c = search needs
 
 returns-6 : tie.Need-returns-6
-returns-6 c = rw (c .before .before .command6 .given .1, c .moved .ensures)
-
-returns-7 : tie.Need-returns-7
-returns-7 c = rw (c .before .before .before .command7 .given .1, c .moved2 .ensures)
+returns-6 c = rw (c .before .before .before .before .before .command6 .given .1, c .before .before .put .ensures .0, c .before .before .put .ensures .1)
 
 same-length-2 : tie.Need-same-length-2
 same-length-2 c = search needs
 
-returns-8 : tie.Need-returns-8
-returns-8 c = rw (c .before .before .enum-told .given .1, c .peek .ensures)
+returns-7 : tie.Need-returns-7
+returns-7 c = rw (c .before .before .before .command7 .given .1, c .fetch .ensures)
 
 same-length-3 : tie.Need-same-length-3
 same-length-3 c = search needs
 
-returns-9 : tie.Need-returns-9
-returns-9 c = rw (c .before .before .before .before .enum-told2 .given .1) (c .before .before .copy .ensures)
+returns-8 : tie.Need-returns-8
+returns-8 c = rw (c .before .before .enum-told .given .1, c .peek .ensures)
 
 same-length-4 : tie.Need-same-length-4
 same-length-4 c = search needs
 
+returns-9 : tie.Need-returns-9
+returns-9 c = rw (c .before .before .before .before .enum-told2 .given .1) (c .before .before .copy .ensures)
+
+same-length-5 : tie.Need-same-length-5
+same-length-5 c = search needs
+
 returns-10 : tie.Need-returns-10
-returns-10 c = rw (c .before .before .before .command8 .given .1, c .with-bit .ensures)
+returns-10 c = rw (c .before .before .before .before .before .command8 .given .1, c .before .before .change .ensures)
 
 pub effect-spec : {M : Type 1} → statement M
 effect-spec =
     tie.close
     (tie.spec
-    cast-at
     enum-known-command
     set-target-requires
     enum-known-command-2
@@ -128,19 +115,15 @@ effect-spec =
     enum-known-command-5
     with-auto-requires
     enum-known-command-6
-    slice-write-mem
-    moved-requires
+    put-requires
     enum-known-command-7
-    slice-read-bus
-    moved-requires-2
+    fetch-requires
     enum-told
     peek-requires
     enum-told-2
     copy-requires
     enum-known-command-8
-    slice-read-with-bit
-    with-bit-requires
-    slice-write-mem-2
+    change-requires
     returns
     returns-2
     returns-3
@@ -148,10 +131,11 @@ effect-spec =
     returns-5
     same-length
     returns-6
-    returns-7
     same-length-2
-    returns-8
+    returns-7
     same-length-3
-    returns-9
+    returns-8
     same-length-4
+    returns-9
+    same-length-5
     returns-10)

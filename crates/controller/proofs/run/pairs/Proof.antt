@@ -1,18 +1,15 @@
 -- `pairs` meets its contract: what is left from here always comes to the whole.
 use borrow.Author.Needs.{needs}
-use borrow.Author.Tests.{eqb-true, ltb-true}
-use Prim.Native.Nat.{_-_, _*_}
+use borrow.Author.Tests.{eqb-true}
+use Prim.Native.Nat.{_-_}
 use native.Mathlib.Omega.{arith}
-use mathlib.Core.Bool.{_&&_}
-use lib.Dec.{eqb, ltb}
-use lib.ListN.{length, getD}
-use Rattle.ground.proofs.Tests.{both-left, both-right}
+use mathlib.Core.Path.{refl, sym, _∙_}
+use Rattle.ground.proofs.Tests.{both-left}
 use Rattle.controller.specs.Ready.{standing}
 use Rattle.controller.proofs.Blocks.{block-moves}
-use Rattle.controller.proofs.Goings.{Going, going, going-runs, going-on, going-stops, going-ends, going-block, going-kept, going-pushes, going-states, going-tells, going-draws, going-reads, going-ticks}
+use Rattle.controller.proofs.Goings.{Going, going, going-runs, going-on, going-stops, going-ends, going-block, going-kept, going-pushes, going-states, going-tells, going-draws, going-leaves, going-reads, going-fetches, going-ticks, room-left, room-still}
 use Rattle.controller.proofs.Laws.{sounds}
 use Rattle.controller.proofs.Readied.{runs-lengths}
-use mathlib.Core.Path.{refl, sym, _∙_}
 use Rattle.controller.proofs.run.pairs.Statement.{statement}
 use Rattle.controller.proofs.run.pairs.Tie as tie
 
@@ -49,20 +46,17 @@ is-write-requires c κs = search needs
 block-requires : tie.Need-block-requires Inv-loop μ-loop
 block-requires c κs = (c .before .before .before .before .before .before .loop .inv .sound .memory, (c .before .before .before .before .before .before .before .before .before .before .before .before .before .pre .1, c .before .before .before .before .before .before .loop .inv .inside))
 
-sub-wrapping-add-u16 : tie.Need-sub-wrapping-add-u16 Inv-loop μ-loop
-sub-wrapping-add-u16 c = omega (arith, c .before .before .block .ensures .reaches)
+sub-passed : tie.Need-sub-passed Inv-loop μ-loop
+sub-passed c = omega (arith, c .before .before .block .ensures .reaches)
 
-cast-wrapping-add-u16 : tie.Need-cast-wrapping-add-u16 Inv-loop μ-loop
-cast-wrapping-add-u16 c = omega arith
-
-wrapping-add-u16-requires : tie.Need-wrapping-add-u16-requires Inv-loop μ-loop
-wrapping-add-u16-requires c κs = search needs
+passed-requires : tie.Need-passed-requires Inv-loop μ-loop
+passed-requires c κs = search needs
 
 loop-less : tie.Need-loop-less Inv-loop μ-loop
 loop-less c = let h = block-moves (c .before .before .before .block .ensures) (c .before .before .before .before .before .before .before .before .before .loop-test .taken) (c .before .before .before .before .before .before .before .before .before .before .before .before .before .before .before .before .before .pre .1) (eqb-true _ 0 (both-left _ (c .before .before .before .before .before .before .is-write .result) (c .before .before .before .before .before .if1 .taken))) in omega (arith, c .before .before .before .block .ensures .inside, h)
 
 loop-again : tie.Need-loop-again Inv-loop μ-loop
-loop-again c = going-block (c .before .before .before .before .before .before .before .before .before .before .loop .inv) (c .before .before .before .before .before .before .is-write .ensures) (both-right (eqb (getD (c .before .before .before .before .before .before .before .before .before .before .before .before .before .before .before .before .before .args .log .now) (2 * c .before .before .before .before .before .before .before .before .before .before .loop .i) 0) 0) (c .before .before .before .before .before .before .is-write .result) (c .before .before .before .before .before .if1 .taken)) (c .before .before .before .block .ensures) (c .wrapping-add-u16 .ensures)
+loop-again c = going-block (c .before .before .before .before .before .before .before .before .before .before .loop .inv) (c .before .before .before .before .before .before .is-write .ensures) (c .before .before .before .before .before .if1 .taken) (c .before .before .before .block .ensures) (c .passed .ensures)
 
 is-off-requires : tie.Need-is-off-requires Inv-loop μ-loop
 is-off-requires c κs = search needs
@@ -83,10 +77,10 @@ state-requires : tie.Need-state-requires Inv-loop μ-loop
 state-requires c κs = search needs
 
 slice-write-answers : tie.Need-slice-write-answers Inv-loop μ-loop
-slice-write-answers c = omega (arith, ltb-true (c .before .before .before .before .before .before .before .before .before .loop .given) (length (c .before .before .before .before .before .before .before .before .before .loop .answers)) (both-right (eqb (getD (c .before .before .before .before .before .before .before .before .before .before .before .before .before .before .before .before .args .log .now) (2 * c .before .before .before .before .before .before .before .before .before .loop .i) 0) 3) (ltb (c .before .before .before .before .before .before .before .before .before .loop .given) (length (c .before .before .before .before .before .before .before .before .before .loop .answers))) (c .before .if3 .taken)))
+slice-write-answers c = room-left (c .before .before .before .before .before .before .before .before .before .loop .inv) 3 (c .before .if3 .taken)
 
 add-given : tie.Need-add-given Inv-loop μ-loop
-add-given c = omega (arith, ltb-true (c .before .before .before .before .before .before .before .before .before .loop .given) (length (c .before .before .before .before .before .before .before .before .before .loop .answers)) (both-right (eqb (getD (c .before .before .before .before .before .before .before .before .before .before .before .before .before .before .before .before .args .log .now) (2 * c .before .before .before .before .before .before .before .before .before .loop .i) 0) 3) (ltb (c .before .before .before .before .before .before .before .before .before .loop .given) (length (c .before .before .before .before .before .before .before .before .before .loop .answers))) (c .before .if3 .taken)), c .before .before .before .before .before .before .before .before .before .loop .inv .room, c .before .before .before .before .before .before .before .before .before .before .before .before .before .before .before .before .good)
+add-given c = let h = room-left (c .before .before .before .before .before .before .before .before .before .loop .inv) 3 (c .before .if3 .taken) in omega (arith, h, c .before .before .before .before .before .before .before .before .before .loop .inv .room, c .before .before .before .before .before .before .before .before .before .before .before .before .before .before .before .before .good)
 
 add-i-2 : tie.Need-add-i-2 Inv-loop μ-loop
 add-i-2 c = omega (arith, c .before .before .before .before .before .before .before .before .loop-test .taken, c .before .before .before .before .before .before .before .before .before .before .before .before .before .before .before .before .pre .1, c .before .before .before .before .before .before .before .before .before .before .before .before .before .before .before .before .good)
@@ -121,52 +115,85 @@ loop-less-5 c = omega (arith, c .before .before .before .before .before .before 
 loop-again-5 : tie.Need-loop-again-5 Inv-loop μ-loop
 loop-again-5 c = going-draws (going-kept (c .before .before .before .before .before .before .before .before .before .before .before .before .before .before .before .before .loop .inv) (c .before .before .before .before .before .before .tell .ensures .keeps (c .before .before .before .if4 .left))) (c .before .before .before .before .before .before .before .before .before .before .before .before .before .before .before .loop-test .taken) (c .before .before .before .before .before .before .before .before .before .before .before .before .before .before .before .before .before .before .before .before .before .before .before .pre .1) (c .before .before .before .before .before .before .before .before .before .before .is-off .ensures) (c .before .before .draw .ensures) (c .before .if5 .taken)
 
-slice-write-answers-2 : tie.Need-slice-write-answers-2 Inv-loop μ-loop
-slice-write-answers-2 c = omega (arith, ltb-true (c .before .before .before .before .before .before .before .before .before .before .before .before .before .before .before .before .loop .given) (length (c .before .before .before .before .before .before .before .before .before .before .before .before .before .before .before .before .loop .answers)) (both-right (eqb (getD (c .before .before .before .before .before .before .before .before .before .before .before .before .before .before .before .before .before .before .before .before .before .before .before .args .log .now) (2 * c .before .before .before .before .before .before .before .before .before .before .before .before .before .before .before .before .loop .i) 0) 2) (ltb (c .before .before .before .before .before .before .before .before .before .before .before .before .before .before .before .before .loop .given) (length (c .before .before .before .before .before .before .before .before .before .before .before .before .before .before .before .before .loop .answers))) (both-left (eqb (getD (c .before .before .before .before .before .before .before .before .before .before .before .before .before .before .before .before .before .before .before .before .before .before .before .args .log .now) (2 * c .before .before .before .before .before .before .before .before .before .before .before .before .before .before .before .before .loop .i) 0) 2 && (ltb (c .before .before .before .before .before .before .before .before .before .before .before .before .before .before .before .before .loop .given) (length (c .before .before .before .before .before .before .before .before .before .before .before .before .before .before .before .before .loop .answers)))) (c .before .before .before .before .before .before .before .before .before .before .is-off .result) (c .if6 .taken))))
-
-add-given-2 : tie.Need-add-given-2 Inv-loop μ-loop
-add-given-2 c = omega (arith, ltb-true (c .before .before .before .before .before .before .before .before .before .before .before .before .before .before .before .before .loop .given) (length (c .before .before .before .before .before .before .before .before .before .before .before .before .before .before .before .before .loop .answers)) (both-right (eqb (getD (c .before .before .before .before .before .before .before .before .before .before .before .before .before .before .before .before .before .before .before .before .before .before .before .args .log .now) (2 * c .before .before .before .before .before .before .before .before .before .before .before .before .before .before .before .before .loop .i) 0) 2) (ltb (c .before .before .before .before .before .before .before .before .before .before .before .before .before .before .before .before .loop .given) (length (c .before .before .before .before .before .before .before .before .before .before .before .before .before .before .before .before .loop .answers))) (both-left (eqb (getD (c .before .before .before .before .before .before .before .before .before .before .before .before .before .before .before .before .before .before .before .before .before .before .before .args .log .now) (2 * c .before .before .before .before .before .before .before .before .before .before .before .before .before .before .before .before .loop .i) 0) 2 && (ltb (c .before .before .before .before .before .before .before .before .before .before .before .before .before .before .before .before .loop .given) (length (c .before .before .before .before .before .before .before .before .before .before .before .before .before .before .before .before .loop .answers)))) (c .before .before .before .before .before .before .before .before .before .before .is-off .result) (c .if6 .taken))), c .before .before .before .before .before .before .before .before .before .before .before .before .before .before .before .before .loop .inv .room, c .before .before .before .before .before .before .before .before .before .before .before .before .before .before .before .before .before .before .before .before .before .before .before .good)
+with-auto-requires : tie.Need-with-auto-requires Inv-loop μ-loop
+with-auto-requires c κs = search needs
 
 add-i-5 : tie.Need-add-i-5 Inv-loop μ-loop
-add-i-5 c = omega (arith, c .before .before .before .before .before .before .before .before .before .before .before .before .before .before .before .loop-test .taken, c .before .before .before .before .before .before .before .before .before .before .before .before .before .before .before .before .before .before .before .before .before .before .before .pre .1, c .before .before .before .before .before .before .before .before .before .before .before .before .before .before .before .before .before .before .before .before .before .before .before .good)
+add-i-5 c = omega (arith, c .before .before .before .before .before .before .before .before .before .before .before .before .before .before .before .before .loop-test .taken, c .before .before .before .before .before .before .before .before .before .before .before .before .before .before .before .before .before .before .before .before .before .before .before .before .pre .1, c .before .before .before .before .before .before .before .before .before .before .before .before .before .before .before .before .before .before .before .before .before .before .before .before .good)
 
 loop-less-6 : tie.Need-loop-less-6 Inv-loop μ-loop
-loop-less-6 c = omega (arith, c .before .before .before .before .before .before .before .before .before .before .before .before .before .before .before .loop-test .taken)
+loop-less-6 c = omega (arith, c .before .before .before .before .before .before .before .before .before .before .before .before .before .before .before .before .loop-test .taken)
 
 loop-again-6 : tie.Need-loop-again-6 Inv-loop μ-loop
-loop-again-6 c = going-reads (going-kept (c .before .before .before .before .before .before .before .before .before .before .before .before .before .before .before .before .loop .inv) (c .before .before .before .before .before .before .tell .ensures .keeps (c .before .before .before .if4 .left))) (c .before .before .before .before .before .before .before .before .before .before .before .before .before .before .before .loop-test .taken) (c .before .before .before .before .before .before .before .before .before .before .before .before .before .before .before .before .before .before .before .before .before .before .before .pre .1) (c .before .before .before .before .before .before .before .before .before .before .is-off .ensures) (c .if6 .taken)
+loop-again-6 c = going-leaves (going-kept (c .before .before .before .before .before .before .before .before .before .before .before .before .before .before .before .before .before .loop .inv) (c .before .before .before .before .before .before .before .tell .ensures .keeps (c .before .before .before .before .if4 .left))) (c .before .before .before .before .before .before .before .before .before .before .before .before .before .before .before .before .loop-test .taken) (c .before .before .before .before .before .before .before .before .before .before .before .before .before .before .before .before .before .before .before .before .before .before .before .before .pre .1) (c .before .if6 .taken) (c .with-auto .ensures)
+
+slice-write-answers-2 : tie.Need-slice-write-answers-2 Inv-loop μ-loop
+slice-write-answers-2 c = room-still (c .before .before .before .before .before .before .before .before .before .before .before .before .before .before .before .before .before .loop .inv) 2 (c .before .before .before .before .before .before .before .before .before .before .before .is-off .result) (c .if7 .taken)
+
+add-given-2 : tie.Need-add-given-2 Inv-loop μ-loop
+add-given-2 c = let h = room-still (c .before .before .before .before .before .before .before .before .before .before .before .before .before .before .before .before .before .loop .inv) 2 (c .before .before .before .before .before .before .before .before .before .before .before .is-off .result) (c .if7 .taken) in omega (arith, h, c .before .before .before .before .before .before .before .before .before .before .before .before .before .before .before .before .before .loop .inv .room, c .before .before .before .before .before .before .before .before .before .before .before .before .before .before .before .before .before .before .before .before .before .before .before .before .good)
 
 add-i-6 : tie.Need-add-i-6 Inv-loop μ-loop
-add-i-6 c = omega (arith, c .before .before .before .before .before .before .before .before .before .before .before .before .before .before .before .before .before .loop-test .taken, c .before .before .before .before .before .before .before .before .before .before .before .before .before .before .before .before .before .before .before .before .before .before .before .before .before .pre .1, c .before .before .before .before .before .before .before .before .before .before .before .before .before .before .before .before .before .before .before .before .before .before .before .before .before .good)
+add-i-6 c = omega (arith, c .before .before .before .before .before .before .before .before .before .before .before .before .before .before .before .before .loop-test .taken, c .before .before .before .before .before .before .before .before .before .before .before .before .before .before .before .before .before .before .before .before .before .before .before .before .pre .1, c .before .before .before .before .before .before .before .before .before .before .before .before .before .before .before .before .before .before .before .before .before .before .before .before .good)
 
 loop-less-7 : tie.Need-loop-less-7 Inv-loop μ-loop
-loop-less-7 c = omega (arith, c .before .before .before .before .before .before .before .before .before .before .before .before .before .before .before .before .before .loop-test .taken)
+loop-less-7 c = omega (arith, c .before .before .before .before .before .before .before .before .before .before .before .before .before .before .before .before .loop-test .taken)
 
 loop-again-7 : tie.Need-loop-again-7 Inv-loop μ-loop
-loop-again-7 c = going-ticks (going-kept (c .before .before .before .before .before .before .before .before .before .before .before .before .before .before .before .before .before .before .loop .inv) (c .before .before .before .before .before .before .before .before .tell .ensures .keeps (c .before .before .before .before .before .if4 .left))) (c .before .before .before .before .before .before .before .before .before .before .before .before .before .before .before .before .before .loop-test .taken) (c .before .before .before .before .before .before .before .before .before .before .before .before .before .before .before .before .before .before .before .before .before .before .before .before .before .pre .1) (c .before .if7 .taken)
+loop-again-7 c = going-reads (going-kept (c .before .before .before .before .before .before .before .before .before .before .before .before .before .before .before .before .before .loop .inv) (c .before .before .before .before .before .before .before .tell .ensures .keeps (c .before .before .before .before .if4 .left))) (c .before .before .before .before .before .before .before .before .before .before .before .before .before .before .before .before .loop-test .taken) (c .before .before .before .before .before .before .before .before .before .before .before .before .before .before .before .before .before .before .before .before .before .before .before .before .pre .1) (c .before .before .before .before .before .before .before .before .before .before .before .is-off .ensures) (c .if7 .taken)
+
+is-read-requires : tie.Need-is-read-requires Inv-loop μ-loop
+is-read-requires c κs = search needs
+
+fetch-requires : tie.Need-fetch-requires Inv-loop μ-loop
+fetch-requires c κs = going-kept (c .before .before .before .before .before .before .before .before .before .before .before .before .before .before .before .before .before .before .before .before .loop .inv) (c .before .before .before .before .before .before .before .before .before .before .tell .ensures .keeps (c .before .before .before .before .before .before .before .if4 .left)) .sound .memory
+
+slice-write-answers-3 : tie.Need-slice-write-answers-3 Inv-loop μ-loop
+slice-write-answers-3 c = room-still (c .before .before .before .before .before .before .before .before .before .before .before .before .before .before .before .before .before .before .before .before .before .loop .inv) 2 (c .before .before .before .is-read .result) (c .before .before .if8 .taken)
+
+add-given-3 : tie.Need-add-given-3 Inv-loop μ-loop
+add-given-3 c = let h = room-still (c .before .before .before .before .before .before .before .before .before .before .before .before .before .before .before .before .before .before .before .before .before .loop .inv) 2 (c .before .before .before .is-read .result) (c .before .before .if8 .taken) in omega (arith, h, c .before .before .before .before .before .before .before .before .before .before .before .before .before .before .before .before .before .before .before .before .before .loop .inv .room, c .before .before .before .before .before .before .before .before .before .before .before .before .before .before .before .before .before .before .before .before .before .before .before .before .before .before .before .before .good)
+
+add-i-7 : tie.Need-add-i-7 Inv-loop μ-loop
+add-i-7 c = omega (arith, c .before .before .before .before .before .before .before .before .before .before .before .before .before .before .before .before .before .before .before .before .loop-test .taken, c .before .before .before .before .before .before .before .before .before .before .before .before .before .before .before .before .before .before .before .before .before .before .before .before .before .before .before .before .pre .1, c .before .before .before .before .before .before .before .before .before .before .before .before .before .before .before .before .before .before .before .before .before .before .before .before .before .before .before .before .good)
+
+loop-less-8 : tie.Need-loop-less-8 Inv-loop μ-loop
+loop-less-8 c = omega (arith, c .before .before .before .before .before .before .before .before .before .before .before .before .before .before .before .before .before .before .before .before .loop-test .taken)
+
+loop-again-8 : tie.Need-loop-again-8 Inv-loop μ-loop
+loop-again-8 c = going-fetches (going-kept (c .before .before .before .before .before .before .before .before .before .before .before .before .before .before .before .before .before .before .before .before .before .loop .inv) (c .before .before .before .before .before .before .before .before .before .before .before .tell .ensures .keeps (c .before .before .before .before .before .before .before .before .if4 .left))) (c .before .before .before .before .before .before .before .before .before .before .before .before .before .before .before .before .before .before .before .before .loop-test .taken) (c .before .before .before .before .before .before .before .before .before .before .before .before .before .before .before .before .before .before .before .before .before .before .before .before .before .before .before .before .pre .1) (c .before .before .before .is-read .ensures) (c .before .before .if8 .taken) (c .fetch .ensures)
+
+add-i-8 : tie.Need-add-i-8 Inv-loop μ-loop
+add-i-8 c = omega (arith, c .before .before .before .before .before .before .before .before .before .before .before .before .before .before .before .before .before .before .before .before .loop-test .taken, c .before .before .before .before .before .before .before .before .before .before .before .before .before .before .before .before .before .before .before .before .before .before .before .before .before .before .before .before .pre .1, c .before .before .before .before .before .before .before .before .before .before .before .before .before .before .before .before .before .before .before .before .before .before .before .before .before .before .before .before .good)
+
+loop-less-9 : tie.Need-loop-less-9 Inv-loop μ-loop
+loop-less-9 c = omega (arith, c .before .before .before .before .before .before .before .before .before .before .before .before .before .before .before .before .before .before .before .before .loop-test .taken)
+
+loop-again-9 : tie.Need-loop-again-9 Inv-loop μ-loop
+loop-again-9 c = going-ticks (going-kept (c .before .before .before .before .before .before .before .before .before .before .before .before .before .before .before .before .before .before .before .before .before .loop .inv) (c .before .before .before .before .before .before .before .before .before .before .before .tell .ensures .keeps (c .before .before .before .before .before .before .before .before .if4 .left))) (c .before .before .before .before .before .before .before .before .before .before .before .before .before .before .before .before .before .before .before .before .loop-test .taken) (c .before .before .before .before .before .before .before .before .before .before .before .before .before .before .before .before .before .before .before .before .before .before .before .before .before .before .before .before .pre .1) (c .before .if9 .taken)
 
 turn-requires : tie.Need-turn-requires Inv-loop μ-loop
 turn-requires c κs =
-    let s = c .before .before .before .before .before .before .before .before .before .before .before .before .before .before .before .before .before .before .before .before .before .before .before .before .before .before in
-    going-runs (going-kept (c .before .before .before .before .before .before .before .before .before .before .before .before .before .before .before .before .before .before .before .loop .inv) (c .before .before .before .before .before .before .before .before .before .tell .ensures .keeps (c .before .before .before .before .before .before .if4 .left))) _ _ refl (s .pre .0 .panel) (runs-lengths (s .pre .0) .1)
+    let s = c .before .before .before .before .before .before .before .before .before .before .before .before .before .before .before .before .before .before .before .before .before .before .before .before .before .before .before .before .before in
+    going-runs (going-kept (c .before .before .before .before .before .before .before .before .before .before .before .before .before .before .before .before .before .before .before .before .before .before .loop .inv) (c .before .before .before .before .before .before .before .before .before .before .before .before .tell .ensures .keeps (c .before .before .before .before .before .before .before .before .before .if4 .left))) _ _ refl (s .pre .0 .panel) (runs-lengths (s .pre .0) .1)
 
 same-length : tie.Need-same-length Inv-loop μ-loop
-same-length c = omega (arith, c .before .before .before .before .before .before .before .before .before .before .before .before .before .before .before .before .before .before .before .before .before .before .before .before .before .before .before .before .loop .inv .sound .memory, runs-lengths (c .before .before .before .before .before .before .before .before .before .before .before .before .before .before .before .before .before .before .before .before .before .before .before .before .before .before .before .before .before .before .before .before .before .before .before .pre .0) .0)
+same-length c = omega (arith, c .before .before .before .before .before .before .before .before .before .before .before .before .before .before .before .before .before .before .before .before .before .before .before .before .before .before .before .before .before .before .before .loop .inv .sound .memory, runs-lengths (c .before .before .before .before .before .before .before .before .before .before .before .before .before .before .before .before .before .before .before .before .before .before .before .before .before .before .before .before .before .before .before .before .before .before .before .before .before .before .pre .0) .0)
 
 same-length-2 : tie.Need-same-length-2 Inv-loop μ-loop
-same-length-2 c = omega (arith, c .before .before .before .before .before .before .before .before .before .before .before .before .before .before .before .before .before .before .before .before .before .before .before .before .before .before .before .before .loop .inv .room)
+same-length-2 c = omega (arith, c .before .before .before .before .before .before .before .before .before .before .before .before .before .before .before .before .before .before .before .before .before .before .before .before .before .before .before .before .before .before .before .loop .inv .room)
 
 returns : tie.Need-returns Inv-loop μ-loop
-returns c = going-stops (going-kept (c .before .before .before .before .before .before .before .before .before .before .before .before .before .before .before .before .before .before .before .before .before .before .before .before .before .before .before .before .loop .inv) (c .before .before .before .before .before .before .before .before .before .before .before .before .before .before .before .before .before .before .tell .ensures .keeps (c .before .before .before .before .before .before .before .before .before .before .before .before .before .before .before .if4 .left))) (c .before .before .before .before .before .before .before .before .before .before .before .before .before .before .before .before .before .before .before .before .before .before .before .before .before .before .before .loop-test .taken) (c .before .before .before .before .before .before .before .before .before .before .before .before .before .before .before .before .before .before .before .before .before .before .before .before .before .before .before .before .before .before .before .before .before .before .before .pre .1) (c .before .before .before .before .before .before .before .before .turn .ensures) (c .if8 .taken)
+returns c = going-stops (going-kept (c .before .before .before .before .before .before .before .before .before .before .before .before .before .before .before .before .before .before .before .before .before .before .before .before .before .before .before .before .before .before .before .loop .inv) (c .before .before .before .before .before .before .before .before .before .before .before .before .before .before .before .before .before .before .before .before .before .tell .ensures .keeps (c .before .before .before .before .before .before .before .before .before .before .before .before .before .before .before .before .before .before .if4 .left))) (c .before .before .before .before .before .before .before .before .before .before .before .before .before .before .before .before .before .before .before .before .before .before .before .before .before .before .before .before .before .before .loop-test .taken) (c .before .before .before .before .before .before .before .before .before .before .before .before .before .before .before .before .before .before .before .before .before .before .before .before .before .before .before .before .before .before .before .before .before .before .before .before .before .before .pre .1) (c .before .before .before .before .before .before .before .before .turn .ensures) (c .if10 .taken)
 
-add-i-7 : tie.Need-add-i-7 Inv-loop μ-loop
-add-i-7 c = omega (arith, c .before .before .before .before .before .before .before .before .before .before .before .before .before .before .before .before .before .before .before .before .before .before .before .before .before .before .before .loop-test .taken, c .before .before .before .before .before .before .before .before .before .before .before .before .before .before .before .before .before .before .before .before .before .before .before .before .before .before .before .before .before .before .before .before .before .before .before .pre .1, c .before .before .before .before .before .before .before .before .before .before .before .before .before .before .before .before .before .before .before .before .before .before .before .before .before .before .before .before .before .before .before .before .before .before .before .good)
+add-i-9 : tie.Need-add-i-9 Inv-loop μ-loop
+add-i-9 c = omega (arith, c .before .before .before .before .before .before .before .before .before .before .before .before .before .before .before .before .before .before .before .before .before .before .before .before .before .before .before .before .before .before .loop-test .taken, c .before .before .before .before .before .before .before .before .before .before .before .before .before .before .before .before .before .before .before .before .before .before .before .before .before .before .before .before .before .before .before .before .before .before .before .before .before .before .pre .1, c .before .before .before .before .before .before .before .before .before .before .before .before .before .before .before .before .before .before .before .before .before .before .before .before .before .before .before .before .before .before .before .before .before .before .before .before .before .before .good)
 
-loop-less-8 : tie.Need-loop-less-8 Inv-loop μ-loop
-loop-less-8 c = omega (arith, c .before .before .before .before .before .before .before .before .before .before .before .before .before .before .before .before .before .before .before .before .before .before .before .before .before .before .before .loop-test .taken)
+loop-less-10 : tie.Need-loop-less-10 Inv-loop μ-loop
+loop-less-10 c = omega (arith, c .before .before .before .before .before .before .before .before .before .before .before .before .before .before .before .before .before .before .before .before .before .before .before .before .before .before .before .before .before .before .loop-test .taken)
 
-loop-again-8 : tie.Need-loop-again-8 Inv-loop μ-loop
-loop-again-8 c = going-on (going-kept (c .before .before .before .before .before .before .before .before .before .before .before .before .before .before .before .before .before .before .before .before .before .before .before .before .before .before .before .before .loop .inv) (c .before .before .before .before .before .before .before .before .before .before .before .before .before .before .before .before .before .before .tell .ensures .keeps (c .before .before .before .before .before .before .before .before .before .before .before .before .before .before .before .if4 .left))) (c .before .before .before .before .before .before .before .before .before .before .before .before .before .before .before .before .before .before .before .before .before .before .before .before .before .before .before .loop-test .taken) (c .before .before .before .before .before .before .before .before .before .before .before .before .before .before .before .before .before .before .before .before .before .before .before .before .before .before .before .before .before .before .before .before .before .before .before .pre .1) (c .before .before .before .before .before .before .before .before .turn .ensures) (c .if8 .left)
+loop-again-10 : tie.Need-loop-again-10 Inv-loop μ-loop
+loop-again-10 c = going-on (going-kept (c .before .before .before .before .before .before .before .before .before .before .before .before .before .before .before .before .before .before .before .before .before .before .before .before .before .before .before .before .before .before .before .loop .inv) (c .before .before .before .before .before .before .before .before .before .before .before .before .before .before .before .before .before .before .before .before .before .tell .ensures .keeps (c .before .before .before .before .before .before .before .before .before .before .before .before .before .before .before .before .before .before .if4 .left))) (c .before .before .before .before .before .before .before .before .before .before .before .before .before .before .before .before .before .before .before .before .before .before .before .before .before .before .before .before .before .before .loop-test .taken) (c .before .before .before .before .before .before .before .before .before .before .before .before .before .before .before .before .before .before .before .before .before .before .before .before .before .before .before .before .before .before .before .before .before .before .before .before .before .before .pre .1) (c .before .before .before .before .before .before .before .before .turn .ensures) (c .if10 .left)
 
 same-length-3 : tie.Need-same-length-3 Inv-loop μ-loop
 same-length-3 c = c .before .loop .inv .sound .memory ∙ sym (runs-lengths (c .before .before .before .before .before .before .before .before .pre .0) .0)
@@ -191,9 +218,8 @@ pairs-spec =
     shared-slice-read-byte
     is-write-requires
     block-requires
-    sub-wrapping-add-u16
-    cast-wrapping-add-u16
-    wrapping-add-u16-requires
+    sub-passed
+    passed-requires
     loop-less
     loop-again
     is-off-requires
@@ -215,21 +241,32 @@ pairs-spec =
     add-i-4
     loop-less-5
     loop-again-5
-    slice-write-answers-2
-    add-given-2
+    with-auto-requires
     add-i-5
     loop-less-6
     loop-again-6
+    slice-write-answers-2
+    add-given-2
     add-i-6
     loop-less-7
     loop-again-7
+    is-read-requires
+    fetch-requires
+    slice-write-answers-3
+    add-given-3
+    add-i-7
+    loop-less-8
+    loop-again-8
+    add-i-8
+    loop-less-9
+    loop-again-9
     turn-requires
     same-length
     same-length-2
     returns
-    add-i-7
-    loop-less-8
-    loop-again-8
+    add-i-9
+    loop-less-10
+    loop-again-10
     same-length-3
     same-length-4
     returns-2)

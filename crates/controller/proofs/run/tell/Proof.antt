@@ -2,14 +2,11 @@
 use mathlib.Core.Path.{refl, ap}
 use native.Mathlib.Omega.{arith}
 use Rattle.codes.specs.Command.{decodeOf}
-use Rattle.controller.specs.Types.{Up, Down, Stay}
-use Rattle.controller.proofs.Tells.{left-tells, tells-pointer, tells-store, tells-load, tells-bit}
+use Rattle.controller.specs.Types.{Write, Read, Up, Down, Stay}
+use Rattle.controller.proofs.Tells.{left-tells, tells-pointer, tells-auto, tells-store, tells-load, tells-bit}
 use borrow.Author.Needs.{needs}
 use Rattle.controller.proofs.run.tell.Statement.{statement}
 use Rattle.controller.proofs.run.tell.Tie as tie
-
-cast-at : tie.Need-cast-at
-cast-at c = search needs
 
 left-requires : tie.Need-left-requires
 left-requires c κs = search needs
@@ -20,23 +17,23 @@ returns c = left-tells (c .left .ensures)
 word-requires : tie.Need-word-requires
 word-requires c κs = search needs
 
+with-auto-requires : tie.Need-with-auto-requires
+with-auto-requires c κs = search needs
+
+with-auto-requires-2 : tie.Need-with-auto-requires-2
+with-auto-requires-2 c κs = search needs
+
 left-requires-2 : tie.Need-left-requires-2
 left-requires-2 c κs = search needs
 
 returns-2 : tie.Need-returns-2
 returns-2 c = left-tells (c .left2 .ensures)
 
-slice-write-mem : tie.Need-slice-write-mem
-slice-write-mem c = search needs
+put-requires : tie.Need-put-requires
+put-requires c κs = search needs
 
-moved-requires : tie.Need-moved-requires
-moved-requires c κs = search needs
-
-slice-read-next : tie.Need-slice-read-next
-slice-read-next c = search needs
-
-moved-requires-2 : tie.Need-moved-requires-2
-moved-requires-2 c κs = search needs
+fetch-requires : tie.Need-fetch-requires
+fetch-requires c κs = search needs
 
 left-requires-3 : tie.Need-left-requires-3
 left-requires-3 c κs = search needs
@@ -44,17 +41,11 @@ left-requires-3 c κs = search needs
 returns-3 : tie.Need-returns-3
 returns-3 c = left-tells (c .left3 .ensures)
 
-slice-write-mem-2 : tie.Need-slice-write-mem-2
-slice-write-mem-2 c = search needs
+put-requires-2 : tie.Need-put-requires-2
+put-requires-2 c κs = search needs
 
-moved-requires-3 : tie.Need-moved-requires-3
-moved-requires-3 c κs = search needs
-
-slice-read-next-2 : tie.Need-slice-read-next-2
-slice-read-next-2 c = search needs
-
-moved-requires-4 : tie.Need-moved-requires-4
-moved-requires-4 c κs = search needs
+fetch-requires-2 : tie.Need-fetch-requires-2
+fetch-requires-2 c κs = search needs
 
 left-requires-4 : tie.Need-left-requires-4
 left-requires-4 c κs = search needs
@@ -62,11 +53,11 @@ left-requires-4 c κs = search needs
 returns-4 : tie.Need-returns-4
 returns-4 c = left-tells (c .left4 .ensures)
 
-slice-write-mem-3 : tie.Need-slice-write-mem-3
-slice-write-mem-3 c = search needs
+put-requires-3 : tie.Need-put-requires-3
+put-requires-3 c κs = search needs
 
-slice-read-next-3 : tie.Need-slice-read-next-3
-slice-read-next-3 c = search needs
+fetch-requires-3 : tie.Need-fetch-requires-3
+fetch-requires-3 c κs = search needs
 
 left-requires-5 : tie.Need-left-requires-5
 left-requires-5 c κs = search needs
@@ -74,14 +65,8 @@ left-requires-5 c κs = search needs
 returns-5 : tie.Need-returns-5
 returns-5 c = left-tells (c .left5 .ensures)
 
-slice-read-with-bit : tie.Need-slice-read-with-bit
-slice-read-with-bit c = search needs
-
-with-bit-requires : tie.Need-with-bit-requires
-with-bit-requires c κs = search needs
-
-slice-write-mem-4 : tie.Need-slice-write-mem-4
-slice-write-mem-4 c = search needs
+change-requires : tie.Need-change-requires
+change-requires c κs = search needs
 
 left-requires-6 : tie.Need-left-requires-6
 left-requires-6 c κs = search needs
@@ -89,82 +74,97 @@ left-requires-6 c κs = search needs
 returns-6 : tie.Need-returns-6
 returns-6 c = tells-pointer (c .before .before .before .before .if1 .taken) (c .before .before .before .match .keys1) (c .before .if2 .left) (c .word .ensures)
 
+returns-7 : tie.Need-returns-7
+returns-7 c = tells-auto (c .before .before .if1 .taken) Write (ap decodeOf (c .before .match .keys2)) (c .with-auto .ensures)
+
+returns-8 : tie.Need-returns-8
+returns-8 c = tells-auto (c .before .before .if1 .taken) Read (ap decodeOf (c .before .match .keys3)) (c .with-auto2 .ensures)
+
 same-length : tie.Need-same-length
 same-length c = search needs
 
-returns-7 : tie.Need-returns-7
-returns-7 c = tells-store (c .before .before .before .before .if1 .taken) Up (ap decodeOf (c .before .before .before .match .keys2)) (c .before .if3 .left) (c .moved .ensures)
-
-returns-8 : tie.Need-returns-8
-returns-8 c = tells-load (c .before .before .before .if1 .taken) Up (ap decodeOf (c .before .before .match .keys3)) (c .moved2 .ensures)
+returns-9 : tie.Need-returns-9
+returns-9 c = tells-store (c .before .before .before .before .before .before .before .if1 .taken) Up (ap decodeOf (c .before .before .before .before .before .before .match .keys4)) (c .before .before .before .before .if3 .left) (c .before .before .put .ensures)
 
 same-length-2 : tie.Need-same-length-2
 same-length-2 c = search needs
 
-returns-9 : tie.Need-returns-9
-returns-9 c = tells-store (c .before .before .before .before .if1 .taken) Down (ap decodeOf (c .before .before .before .match .keys4)) (c .before .if4 .left) (c .moved3 .ensures)
-
 returns-10 : tie.Need-returns-10
-returns-10 c = tells-load (c .before .before .before .if1 .taken) Down (ap decodeOf (c .before .before .match .keys5)) (c .moved4 .ensures)
+returns-10 c = tells-load (c .before .before .before .if1 .taken) Up (ap decodeOf (c .before .before .match .keys5)) (c .fetch .ensures)
 
 same-length-3 : tie.Need-same-length-3
 same-length-3 c = search needs
 
 returns-11 : tie.Need-returns-11
-returns-11 c = tells-store (c .before .before .before .if1 .taken) Stay (ap decodeOf (c .before .before .match .keys6)) (c .if5 .left) refl
-
-returns-12 : tie.Need-returns-12
-returns-12 c = tells-load (c .before .before .if1 .taken) Stay (ap decodeOf (c .before .match .keys7)) refl
+returns-11 c = tells-store (c .before .before .before .before .before .before .before .if1 .taken) Down (ap decodeOf (c .before .before .before .before .before .before .match .keys6)) (c .before .before .before .before .if4 .left) (c .before .before .put2 .ensures)
 
 same-length-4 : tie.Need-same-length-4
 same-length-4 c = search needs
 
+returns-12 : tie.Need-returns-12
+returns-12 c = tells-load (c .before .before .before .if1 .taken) Down (ap decodeOf (c .before .before .match .keys7)) (c .fetch2 .ensures)
+
+same-length-5 : tie.Need-same-length-5
+same-length-5 c = search needs
+
 returns-13 : tie.Need-returns-13
-returns-13 c = tells-bit (c .before .before .before .before .if1 .taken) (c .before .before .if6 .left) (omega arith) (c .with-bit .ensures)
+returns-13 c = tells-store (c .before .before .before .before .before .before .before .if1 .taken) Stay (ap decodeOf (c .before .before .before .before .before .before .match .keys8)) (c .before .before .before .before .if5 .left) (c .before .before .put3 .ensures)
+
+same-length-6 : tie.Need-same-length-6
+same-length-6 c = search needs
 
 returns-14 : tie.Need-returns-14
-returns-14 c = left-tells (c .left6 .ensures)
+returns-14 c = tells-load (c .before .before .before .if1 .taken) Stay (ap decodeOf (c .before .before .match .keys9)) (c .fetch3 .ensures)
+
+same-length-7 : tie.Need-same-length-7
+same-length-7 c = search needs
+
+returns-15 : tie.Need-returns-15
+returns-15 c = tells-bit (c .before .before .before .before .before .before .if1 .taken) (c .before .before .before .before .if6 .left) (omega arith) (c .before .before .change .ensures)
+
+returns-16 : tie.Need-returns-16
+returns-16 c = left-tells (c .left6 .ensures)
 
 pub tell-spec : {M : Type 1} → statement M
 tell-spec =
     tie.close
     (tie.spec
-    cast-at
     left-requires
     returns
     word-requires
+    with-auto-requires
+    with-auto-requires-2
     left-requires-2
     returns-2
-    slice-write-mem
-    moved-requires
-    slice-read-next
-    moved-requires-2
+    put-requires
+    fetch-requires
     left-requires-3
     returns-3
-    slice-write-mem-2
-    moved-requires-3
-    slice-read-next-2
-    moved-requires-4
+    put-requires-2
+    fetch-requires-2
     left-requires-4
     returns-4
-    slice-write-mem-3
-    slice-read-next-3
+    put-requires-3
+    fetch-requires-3
     left-requires-5
     returns-5
-    slice-read-with-bit
-    with-bit-requires
-    slice-write-mem-4
+    change-requires
     left-requires-6
     returns-6
-    same-length
     returns-7
     returns-8
-    same-length-2
+    same-length
     returns-9
+    same-length-2
     returns-10
     same-length-3
     returns-11
-    returns-12
     same-length-4
+    returns-12
+    same-length-5
     returns-13
-    returns-14)
+    same-length-6
+    returns-14
+    same-length-7
+    returns-15
+    returns-16)
