@@ -55,10 +55,10 @@ pub struct Pending {
     pub newest: u8,
 }
 
-// All that decides how the next access is taken.
+// All that decides how the next access is taken. `auto` comes first and makes it ten bytes: one of eight is carried about as a single number.
 pub struct Bus {
-    pub pointer: u16,
     pub auto: Auto,
+    pub pointer: u16,
     pub pending: Pending,
     pub latch: u8,
     pub error: bool,
