@@ -342,12 +342,12 @@ fn passed(bus: Bus, count: usize) -> Bus
     ensures { λ r. ⌜ r ≡ withPointer bus ((bus .pointer + count) % 65536) ⌝ }
 {
     let auto = bus.auto;
-    let pending = bus.pending;
+    let kept = bus.pending;
     let far = (count % 65536) as u16;
     Bus {
         auto,
         pointer: std::num::wrapping_add_u16(bus.pointer, far),
-        pending,
+        pending: kept,
         latch: bus.latch,
         error: bus.error,
     }

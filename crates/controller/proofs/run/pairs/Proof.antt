@@ -77,7 +77,7 @@ state-requires : tie.Need-state-requires Inv-loop μ-loop
 state-requires c κs = search needs
 
 slice-write-answers : tie.Need-slice-write-answers Inv-loop μ-loop
-slice-write-answers c = room-left (c .before .before .before .before .before .before .before .before .before .loop .inv) 3 (c .before .if3 .taken)
+slice-write-answers c = let h = room-left (c .before .before .before .before .before .before .before .before .before .loop .inv) 3 (c .before .if3 .taken) in omega (arith, h)
 
 add-given : tie.Need-add-given Inv-loop μ-loop
 add-given c = let h = room-left (c .before .before .before .before .before .before .before .before .before .loop .inv) 3 (c .before .if3 .taken) in omega (arith, h, c .before .before .before .before .before .before .before .before .before .loop .inv .room, c .before .before .before .before .before .before .before .before .before .before .before .before .before .before .before .before .good)
@@ -128,7 +128,7 @@ loop-again-6 : tie.Need-loop-again-6 Inv-loop μ-loop
 loop-again-6 c = going-leaves (going-kept (c .before .before .before .before .before .before .before .before .before .before .before .before .before .before .before .before .before .loop .inv) (c .before .before .before .before .before .before .before .tell .ensures .keeps (c .before .before .before .before .if4 .left))) (c .before .before .before .before .before .before .before .before .before .before .before .before .before .before .before .before .loop-test .taken) (c .before .before .before .before .before .before .before .before .before .before .before .before .before .before .before .before .before .before .before .before .before .before .before .before .pre .1) (c .before .if6 .taken) (c .with-auto .ensures)
 
 slice-write-answers-2 : tie.Need-slice-write-answers-2 Inv-loop μ-loop
-slice-write-answers-2 c = room-still (c .before .before .before .before .before .before .before .before .before .before .before .before .before .before .before .before .before .loop .inv) 2 (c .before .before .before .before .before .before .before .before .before .before .before .is-off .result) (c .if7 .taken)
+slice-write-answers-2 c = let h = room-still (c .before .before .before .before .before .before .before .before .before .before .before .before .before .before .before .before .before .loop .inv) 2 (c .before .before .before .before .before .before .before .before .before .before .before .is-off .result) (c .if7 .taken) in omega (arith, h)
 
 add-given-2 : tie.Need-add-given-2 Inv-loop μ-loop
 add-given-2 c = let h = room-still (c .before .before .before .before .before .before .before .before .before .before .before .before .before .before .before .before .before .loop .inv) 2 (c .before .before .before .before .before .before .before .before .before .before .before .is-off .result) (c .if7 .taken) in omega (arith, h, c .before .before .before .before .before .before .before .before .before .before .before .before .before .before .before .before .before .loop .inv .room, c .before .before .before .before .before .before .before .before .before .before .before .before .before .before .before .before .before .before .before .before .before .before .before .before .good)
@@ -149,7 +149,7 @@ fetch-requires : tie.Need-fetch-requires Inv-loop μ-loop
 fetch-requires c κs = going-kept (c .before .before .before .before .before .before .before .before .before .before .before .before .before .before .before .before .before .before .before .before .loop .inv) (c .before .before .before .before .before .before .before .before .before .before .tell .ensures .keeps (c .before .before .before .before .before .before .before .if4 .left)) .sound .memory
 
 slice-write-answers-3 : tie.Need-slice-write-answers-3 Inv-loop μ-loop
-slice-write-answers-3 c = room-still (c .before .before .before .before .before .before .before .before .before .before .before .before .before .before .before .before .before .before .before .before .before .loop .inv) 2 (c .before .before .before .is-read .result) (c .before .before .if8 .taken)
+slice-write-answers-3 c = let h = room-still (c .before .before .before .before .before .before .before .before .before .before .before .before .before .before .before .before .before .before .before .before .before .loop .inv) 2 (c .before .before .before .is-read .result) (c .before .before .if8 .taken) in omega (arith, h)
 
 add-given-3 : tie.Need-add-given-3 Inv-loop μ-loop
 add-given-3 c = let h = room-still (c .before .before .before .before .before .before .before .before .before .before .before .before .before .before .before .before .before .before .before .before .before .loop .inv) 2 (c .before .before .before .is-read .result) (c .before .before .if8 .taken) in omega (arith, h, c .before .before .before .before .before .before .before .before .before .before .before .before .before .before .before .before .before .before .before .before .before .loop .inv .room, c .before .before .before .before .before .before .before .before .before .before .before .before .before .before .before .before .before .before .before .before .before .before .before .before .before .before .before .before .good)
