@@ -1,5 +1,6 @@
 /* The proved controller against the second one, in one process: random logs, from random valid and invalid states and memories,
-   in two parts, everything compared after each. `compare SEED PAIRS` goes on until it has compared that many pairs. */
+   in two parts, everything compared after each. `compare SEED PAIRS` goes on until it has compared that many pairs. Every fiftieth
+   seed is tried once more with a long block of data in its log; these pairs are counted beside, and not among the wanted ones. */
 #include "../include/bintarumpe.h"
 #include "generate.h"
 #include "image.h"
@@ -10,7 +11,8 @@ unsigned long long strtoull(const char *text, char **end, int base);
 void *memcpy(void *to, const void *from, unsigned long count);
 int memcmp(const void *one, const void *other, unsigned long count);
 
-enum { ANSWERS = 300, FRAME = 8 * 16 * 80, LOG = 1200 };
+/* BLOCK: the pairs of the longest block and of what leads to it. */
+enum { ANSWERS = 300, FRAME = 8 * 16 * 80, LOG = 1200, BLOCK = 2 * 65536 + 200, EVERY = 50 };
 
 /* One side's buffers. */
 struct side {
@@ -29,7 +31,7 @@ struct trial {
     unsigned char registers[REGISTERS];
     unsigned char memory[SECOND_MEMORY_LENGTH];
     unsigned char rom[SECOND_ROM_LENGTH];
-    unsigned char log[LOG];
+    unsigned char log[LOG + 2 * BLOCK];
     unsigned long log_length, limit, answers_length, frame_length, memory_length, rom_length;
 };
 
@@ -152,21 +154,78 @@ static void make(unsigned long long seed)
     trial.rom_length = below(&random, 40) ? SECOND_ROM_LENGTH : SECOND_ROM_LENGTH - 1;
 }
 
-/* Pairs taken out one by one while the two still differ. */
+/* The block that a long log has; none where another pair stands among its data. */
+struct block {
+    unsigned long begin, pairs;
+    unsigned pointer;
+};
+
+static void put(unsigned char *log, unsigned long pair, unsigned kind, unsigned byte)
+{
+    log[2 * pair] = (unsigned char)kind, log[2 * pair + 1] = (unsigned char)byte;
+}
+
+/* A block of data put into the made log: longer than the memory, over the pointer's wrap, or both. One in three begins the log, in a
+   state of auto write with data pending; the others are led to by commands. One in four has a pair of another kind among its data. */
+static struct block lengthen(unsigned long long seed)
+{
+    static struct trial made;
+    struct generate_random random = {seed ^ 0xb10cULL};
+    const unsigned before = 1 + below(&random, 300);
+    const int first = below(&random, 3) == 0, ended = below(&random, 4) != 0, broken = below(&random, 4) == 0;
+    struct block block = {0, 0, 65536 - before};
+    unsigned long at = first ? 0 : below(&random, (unsigned)(trial.log_length / 4 + 1)), from = at;
+    switch (below(&random, 4)) {
+    case 0: block.pairs = 65537 + below(&random, 9000); break;
+    case 1: block.pairs = 65535 + below(&random, 3); break;
+    case 2: block.pairs = 2 * 65536 + below(&random, 100); break;
+    default: block.pairs = before - 1 + below(&random, 60); break;
+    }
+    made = trial;
+    if (first) {
+        struct second_registers r;
+        from_bytes(trial.registers, &r);
+        r.auto_mode = SECOND_AUTO_WRITE, r.pointer = block.pointer;
+        to_bytes(&r, trial.registers);
+    } else {
+        put(trial.log, at++, 1, 0xb2), put(trial.log, at++, 0, block.pointer % 256), put(trial.log, at++, 0, block.pointer / 256);
+        put(trial.log, at++, 1, 0x24), put(trial.log, at++, 1, 0xb0);
+    }
+    block.begin = at;
+    for (unsigned long i = 0; i < block.pairs; i++)
+        put(trial.log, at++, 0, (unsigned)(generate_next(&random) >> 56));
+    if (broken && block.pairs > 0) {
+        static const unsigned char kinds[4] = {3, 4, 2, 5};
+        trial.log[2 * (block.begin + below(&random, (unsigned)block.pairs))] = kinds[below(&random, 4)];
+        block.pairs = 0;
+    }
+    if (ended)
+        put(trial.log, at++, 1, 0xb2);
+    memcpy(trial.log + 2 * at, made.log + 2 * from, made.log_length - 2 * from);
+    trial.log_length += 2 * (at - from);
+    trial.limit = below(&random, 2) ? trial.log_length : below(&random, (unsigned)(trial.log_length / 2 + 2));
+    return block;
+}
+
+/* Pairs taken out, many at once and then fewer, while the two still differ; a long log is not taken apart to the last pair. */
 static void shrink(unsigned long long seed)
 {
-    for (unsigned long i = trial.log_length / 2; i-- > 0;) {
-        const struct trial kept = trial;
-        memcpy(trial.log + 2 * i, kept.log + 2 * i + 2, kept.log_length - 2 * i - 2);
-        trial.log_length -= 2;
-        if (compare() >= 0)
-            trial = kept;
-    }
+    static struct trial kept;
+    for (unsigned long many = trial.log_length / 2; many > trial.log_length / 8192; many /= 2)
+        for (unsigned long i = trial.log_length / 2; i >= many; i -= many) {
+            kept = trial;
+            memcpy(trial.log + 2 * (i - many), kept.log + 2 * i, kept.log_length - 2 * i);
+            trial.log_length -= 2 * many;
+            if (compare() >= 0)
+                trial = kept;
+        }
     (void)compare();
     printf("differs at seed %llu: panel %u %u %u, limit %lu, answers %lu, log", seed, trial.panel.columns, trial.panel.lines,
            trial.panel.width, trial.limit, trial.answers_length);
-    for (unsigned long i = 0; i < trial.log_length; i++)
+    for (unsigned long i = 0; i < trial.log_length && i < LOG; i++)
         printf(" %02X", trial.log[i]);
+    if (trial.log_length > LOG)
+        printf(" .., %lu bytes", trial.log_length);
     printf("\n  registers");
     for (unsigned i = 0; i < REGISTERS; i++)
         printf(" %02X", trial.registers[i]);
@@ -178,19 +237,29 @@ int main(int count, char **words)
 {
     unsigned long long seed = count > 1 ? strtoull(words[1], 0, 10) : 1;
     const unsigned long long wanted = count > 2 ? strtoull(words[2], 0, 10) : 100000;
-    unsigned long long pairs = 0, passed = 0, failed = 0;
+    unsigned long long pairs = 0, passed = 0, failed = 0, more = 0, longer = 0, wrapped = 0;
     const unsigned long long first = seed;
-    for (; pairs < wanted && failed < 3; seed++) {
-        make(seed);
-        const long taken = compare();
-        if (taken < 0) {
-            failed++;
-            shrink(seed);
-        } else {
+    for (; pairs < wanted && failed < 3; seed++)
+        for (int again = 0; again <= (seed % EVERY == 0); again++) {
+            struct block block = {0, 0, 0};
+            make(seed);
+            if (again)
+                block = lengthen(seed);
+            const long taken = compare();
+            if (taken < 0) {
+                failed++;
+                shrink(seed);
+                continue;
+            }
             passed++;
-            pairs += (unsigned long long)taken;
+            *(again ? &more : &pairs) += (unsigned long long)taken;
+            if (again && (unsigned long)taken > block.begin + block.pairs) {
+                longer += block.pairs > 65536;
+                wrapped += block.pointer + block.pairs > 65536;
+            }
         }
-    }
-    printf("seeds %llu to %llu, %llu pairs\n%llu passed, %llu failed\n", first, seed - 1, pairs, passed, failed);
+    printf("seeds %llu to %llu, %llu pairs; long logs: %llu pairs, %llu blocks of more than 65,536 bytes, %llu over the wrap\n", first, seed - 1,
+           pairs, more, longer, wrapped);
+    printf("%llu passed, %llu failed\n", passed, failed);
     return failed != 0;
 }
