@@ -5,6 +5,7 @@
 #include "generate.h"
 #include "image.h"
 #include "second.h"
+#include "states.h"
 
 int printf(const char *format, ...);
 unsigned long long strtoull(const char *text, char **end, int base);
@@ -104,24 +105,11 @@ static long compare(void)
     return pairs + 1;
 }
 
-static unsigned below(struct generate_random *random, unsigned bound) { return generate_below(random, bound); }
-
 /* A valid state but for one field in twenty. */
 static void make_state(struct generate_random *random)
 {
     struct second_registers r;
-    r.cursor_x = below(random, 4) ? below(random, trial.panel.columns % 128 + 1) : below(random, 128);
-    r.cursor_y = below(random, 4) ? below(random, trial.panel.lines % 32 + 1) : below(random, 32);
-    r.offset = below(random, 32), r.pointer = below(random, 65536), r.text_home = below(random, 65536);
-    r.graphic_home = below(random, 3) ? below(random, 65536) : r.pointer;
-    r.text_area = below(random, 2) ? trial.panel.columns % 256 : below(random, 256);
-    r.graphic_area = below(random, 2) ? trial.panel.columns % 256 : below(random, 256);
-    r.combination = below(random, 4), r.external = below(random, 2), r.graphic = below(random, 4) != 0;
-    r.text = below(random, 4) != 0, r.cursor = below(random, 2), r.blink = below(random, 2);
-    r.cursor_height = 1 + below(random, 8), r.auto_mode = below(random, 4) ? 0 : below(random, 3);
-    r.pending = below(random, 3), r.older = r.pending == 2 ? below(random, 256) : 0;
-    r.newest = r.pending ? below(random, 256) : 0, r.latch = below(random, 256), r.error = below(random, 2);
-    r.phase = below(random, 2) ? SECOND_PHASE_NORMAL : SECOND_PHASE_OFF;
+    random_state(random, &trial.panel, &r);
     to_bytes(&r, trial.registers);
     if (below(random, 20) == 0)
         trial.registers[below(random, REGISTERS)] = (unsigned char)below(random, 256);
