@@ -153,13 +153,7 @@ fn obey(panel: Panel, registers: Registers, mem: &mut [u8], rom: &[u8], command:
 }
 
 // A code is first taken apart; an undefined one ends the step there.
-pub(crate) fn command(
-    panel: Panel,
-    registers: Registers,
-    mem: &mut [u8],
-    rom: &[u8],
-    code: u8,
-) -> Acted
+fn command(panel: Panel, registers: Registers, mem: &mut [u8], rom: &[u8], code: u8) -> Acted
     requires { ⌜ Ready panel (registers .display) (now mem) (now rom) ⌝ }
     ensures { λ r. ⌜ replied r (now (mem .exit)) ≡ actedOf registers (now (mem .entry)) (commandOf panel (now (rom .entry)) (machine registers (now (mem .entry))) (decodeOf code)) ⌝ }
 {
@@ -169,7 +163,7 @@ pub(crate) fn command(
     obey(panel, registers, mem, rom, command)
 }
 
-pub(crate) fn data_write(auto: Auto, registers: Registers, mem: &mut [u8], byte: u8) -> Acted
+fn data_write(auto: Auto, registers: Registers, mem: &mut [u8], byte: u8) -> Acted
     requires { ⌜ length (now mem) ≡ 65536 ⌝ }
     ensures { λ r. ⌜ replied r (now (mem .exit)) ≡ actedOf registers (now (mem .entry)) (writeOf auto (machine registers (now (mem .entry))) byte) ⌝ }
 {
@@ -205,7 +199,7 @@ pub(crate) fn data_write(auto: Auto, registers: Registers, mem: &mut [u8], byte:
     }
 }
 
-pub(crate) fn data_read(auto: Auto, registers: Registers, mem: &[u8]) -> Acted
+fn data_read(auto: Auto, registers: Registers, mem: &[u8]) -> Acted
     requires { ⌜ length (now mem) ≡ 65536 ⌝ }
     ensures { λ r. ⌜ replied r (now (mem .entry)) ≡ actedOf registers (now (mem .entry)) (readOf auto (machine registers (now (mem .entry)))) ⌝ }
 {
@@ -235,7 +229,7 @@ pub(crate) fn data_read(auto: Auto, registers: Registers, mem: &[u8]) -> Acted
     }
 }
 
-pub(crate) fn tick(registers: Registers) -> Registers
+fn tick(registers: Registers) -> Registers
     ensures { λ r. ⌜ r ≡ withDisplay registers (withPhase (registers .display) (not (registers .display .phase))) ⌝ }
 {
     let mut next = registers;
@@ -245,7 +239,7 @@ pub(crate) fn tick(registers: Registers) -> Registers
     next
 }
 
-pub(crate) fn read_status(registers: Registers) -> Acted
+fn read_status(registers: Registers) -> Acted
     ensures { λ r. ⌜ r ≡ record { number = 0; place = 0; registers = registers; answer = statusOf registers } ⌝ }
 {
     Acted {
@@ -257,7 +251,14 @@ pub(crate) fn read_status(registers: Registers) -> Acted
 }
 
 // One pair on a machine that is known to be valid.
-fn step(panel: Panel, registers: Registers, mem: &mut [u8], rom: &[u8], kind: u8, byte: u8) -> Acted
+pub(crate) fn step(
+    panel: Panel,
+    registers: Registers,
+    mem: &mut [u8],
+    rom: &[u8],
+    kind: u8,
+    byte: u8,
+) -> Acted
     requires { ⌜ Ready panel (registers .display) (now mem) (now rom) ⌝ }
     ensures { λ r. ⌜ replied r (now (mem .exit)) ≡ actedOf registers (now (mem .entry)) (stepOf panel (now (rom .entry)) (machine registers (now (mem .entry))) (record { kind = kind; byte = byte })) ⌝ }
 {

@@ -8,11 +8,7 @@ ghost use Rattle.controller.specs.Access.{machine, stepOf};
 ghost use Rattle.controller.specs.Run.{turnOf, runFrom, ranOf, ranAll, runOf, pairsOf};
 ghost use Rattle.controller.specs.Ready.{Runs, Tells, Draws, Blocked, standing, turnedAll, turnedOf, takenOf, answeredAll, answeredOf};
 use crate::access::Acted;
-use crate::access::command;
-use crate::access::data_read;
-use crate::access::data_write;
-use crate::access::read_status;
-use crate::access::tick;
+use crate::access::step;
 use crate::effect::change;
 use crate::effect::fetch;
 use crate::effect::is_read;
@@ -98,7 +94,7 @@ fn answered(acted: Acted, registers: Registers, answers: &mut [u8], given: usize
     halted(number, registers, given)
 }
 
-// One pair. The kinds stand apart, and a command is a call of its own, so that data and reads make a small loop.
+// One pair, as a step does it; what a read gives goes into the buffer.
 fn turn(
     panel: Panel,
     registers: Registers,
@@ -112,31 +108,11 @@ fn turn(
     requires { ⌜ Runs panel registers (now mem) (now rom) ⌝ }
     ensures { λ r. ⌜ turnedAll r (now (mem .exit)) (now (answers .exit)) ≡ turnedOf (standing registers (now (mem .entry)) (now (answers .entry)) given) (turnOf (standing registers (now (mem .entry)) (now (answers .entry)) given) (stepOf panel (now (rom .entry)) (machine registers (now (mem .entry))) (record { kind = kind; byte = byte }))) ⌝ }
 {
-    let bus = registers.bus;
-    let auto = bus.auto;
-    match kind {
-        0 => {
-            let acted = data_write(auto, registers, mem, byte);
-            taken(acted, registers, given)
-        }
-        1 => {
-            let acted = command(panel, registers, mem, rom, byte);
-            taken(acted, registers, given)
-        }
-        2 => {
-            let acted = data_read(auto, registers, mem);
-            answered(acted, registers, answers, given)
-        }
-        3 => {
-            let acted = read_status(registers);
-            answered(acted, registers, answers, given)
-        }
-        4 => Turned {
-            number: 0,
-            registers: tick(registers),
-            given,
-        },
-        _ => halted(3, registers, given),
+    let acted = step(panel, registers, mem, rom, kind, byte);
+    if (kind == 2) | (kind == 3) {
+        answered(acted, registers, answers, given)
+    } else {
+        taken(acted, registers, given)
     }
 }
 
