@@ -11,7 +11,7 @@ use borrow.Author.Tests.{eq-eqb, eqb-true, ltb-true}
 use Rattle.ground.specs.Lists.{stored}
 use Rattle.ground.proofs.Tests.{cond-has, both, both-left, both-right}
 use Rattle.ground.proofs.Stores.{stored-length}
-use Rattle.display.specs.State.{validPanel, none}
+use Rattle.state.specs.State.{validPanel, none}
 use Rattle.codes.specs.Command.{isOff}
 use Rattle.display.specs.Frame.{lentLengths}
 use Rattle.controller.specs.Types.{Panel, Display, Auto, Off, Write, Read, Pending, Bus, Registers, Turned, Ran, Told, Drawn, Up}

@@ -8,7 +8,7 @@ use lib.Dec.{ltb, leb, eqb}
 use lib.ListN.{getD, set}
 use borrow.Author.Tests.{le-leb, lt-ltb}
 use Rattle.ground.specs.Bytes.{wordOf, withBit}
-use Rattle.display.specs.State.{none}
+use Rattle.state.specs.State.{none}
 use Rattle.codes.specs.Command.{has, groupOf, decodeOf, neededOf, isOff, endsAuto}
 use Rattle.codes.specs.declared.command.Target.the-variants as target
 use Rattle.controller.specs.Types.{Panel, Shows, Or, Exor, And, Attribute, Combination, Display, Auto, Off, Bus, Command, Set, Mode, Show, Height, Run, Store, Load, Bit, Decoded, Defined, Undefined, Move, Told, Drawn}

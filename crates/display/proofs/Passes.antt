@@ -22,7 +22,9 @@ use Rattle.ground.proofs.Tests.{both-right}
 use Rattle.display.specs.Types.{Panel, Plane, Display, Combination, Or, Exor, And, Attribute, Show, Normal, Reverse, Inhibit, Look}
 use Rattle.display.proofs.Bounds.{glyph-lt}
 use Rattle.display.proofs.Cases.{graphic-off, text-off, text-plain, text-attributed, cell-shown, cell-cursor}
-use Rattle.display.specs.Displayed.{addressOf, lookOf, shownAs, attributeByte, attributed, isAttribute, mixed, glyphDots, textDots, graphicDots, displayedByte, cursorLit, cursorCovers, cellByte}
+use Rattle.display.specs.Displayed.{addressOf, attributeByte, mixed, glyphDots, textDots, graphicDots, displayedByte, cursorLit, cursorCovers, cellByte}
+use Rattle.state.specs.Attribute.{lookOf, shownAs, attributed}
+use Rattle.state.specs.Combination.{isAttribute}
 
 -- a pass: the cells filled up to n by a rule, the layer's address at cell n
 pub record Going (f : ℕ → ℕ) (start : ℕ) (l₀ l : List ℕ) (at n : ℕ) : Type 0 where

@@ -4,18 +4,19 @@ ghost use mathlib.Core.Bool.{cond, not, _&&_};
 ghost use mathlib.Core.Logic.{_⊎_};
 ghost use Prim.Native.Nat.{_-_, _/_, _%_, _^_, _≤_, _<_};
 ghost use lib.ListN.{length, getD};
-ghost use Rattle.display.specs.Displayed.{addressOf, glyphRow, shownAs, attributed, glyphDots, textDots, graphicDots, mixed, attributeByte, displayedByte, cursorLit, cursorCovers};
+ghost use Rattle.display.specs.Displayed.{addressOf, glyphRow, glyphDots, textDots, graphicDots, mixed, attributeByte, displayedByte, cursorLit, cursorCovers};
+ghost use Rattle.state.specs.Attribute.{shownAs, attributed};
 ghost use Rattle.display.specs.Drawable.{Drawable};
-use super::attribute::Look;
-use super::attribute::Show;
-use super::attribute::look_at;
-use super::combination::combine;
-use super::combination::is_attribute;
-use super::panel::Panel;
-use super::registers::Combination;
-use super::registers::Cursor;
-use super::registers::Display;
-use super::registers::Plane;
+use state::attribute::Look;
+use state::attribute::Show;
+use state::attribute::look_at;
+use state::combination::combine;
+use state::combination::is_attribute;
+use state::panel::Panel;
+use state::registers::Combination;
+use state::registers::Cursor;
+use state::registers::Display;
+use state::registers::Plane;
 
 // The low w bits set.
 pub(crate) fn full(width: usize) -> u8

@@ -5,9 +5,10 @@ ghost use mathlib.Core.Logic.{_⊎_};
 ghost use Prim.Native.Nat.{_-_, _/_, _^_};
 ghost use lib.ListN.{length};
 ghost use Rattle.ground.specs.Lists.{build};
-ghost use Rattle.display.specs.Displayed.{attributed, attributeByte, glyphDots, textDots, displayedByte};
+ghost use Rattle.state.specs.Attribute.{attributed};
+ghost use Rattle.display.specs.Displayed.{attributeByte, glyphDots, textDots, displayedByte};
 ghost use Rattle.display.specs.Drawable.{Drawable};
-use super::attribute::LOOKS;
+use state::attribute::LOOKS;
 use super::cell::address;
 use super::cell::byte_at;
 use super::cell::full;
@@ -15,9 +16,9 @@ use super::cell::glyph;
 use super::cell::low;
 use super::cell::mix;
 use super::cell::shows;
-use super::combination::is_attribute;
-use super::panel::Panel;
-use super::registers::Display;
+use state::combination::is_attribute;
+use state::panel::Panel;
+use state::registers::Display;
 
 // The glyph rows of the line's codes.
 fn lay_glyphs(panel: Panel, display: Display, mem: &[u8], rom: &[u8], row: usize, cells: &mut [u8])

@@ -11,8 +11,8 @@ use super::cell::cursor_lit;
 use super::cell::full;
 use super::layers::lay_graphic;
 use super::layers::lay_text;
-use super::panel::Panel;
-use super::registers::Display;
+use state::panel::Panel;
+use state::registers::Display;
 use ground::cells::pack;
 
 // The cursor laid over its cell.

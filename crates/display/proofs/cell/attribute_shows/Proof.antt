@@ -2,7 +2,7 @@
 use mathlib.Core.Path.{ap, _∙_}
 use mathlib.Core.Bool.{cond, not, _&&_}
 use Rattle.display.specs.Types.{Look}
-use Rattle.display.specs.Displayed.{attributed, shownAs}
+use Rattle.state.specs.Attribute.{attributed, shownAs}
 use borrow.Author.Needs.{needs}
 use Rattle.display.proofs.cell.attribute_shows.Statement.{statement}
 use Rattle.display.proofs.cell.attribute_shows.Tie as tie

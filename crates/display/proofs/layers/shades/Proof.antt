@@ -6,7 +6,7 @@ use lib.Pow.{pow-pos, ones-lt}
 use Rattle.ground.specs.Lists.{build}
 use Rattle.ground.proofs.Lists.{build-at}
 use Rattle.ground.proofs.Filling.{Filled, none-yet, as-long, one-more, at-end}
-use Rattle.display.specs.Displayed.{lookOf, attributed}
+use Rattle.state.specs.Attribute.{lookOf, attributed}
 use Rattle.display.proofs.Passes.{by-table}
 use borrow.Author.Needs.{needs}
 use Rattle.display.proofs.layers.shades.Statement.{statement}
