@@ -11,10 +11,10 @@ use lib.ListN.{length, getD, drop, length-drop}
 use lib.Seq.{length-take-le}
 use borrow.Author.Tests.{leb-true, leb-false, ltb-true}
 use Rattle.ground.proofs.Tests.{both-left, both-right, settled}
-use Rattle.display.specs.declared.panel.Panel.{Panel}
-use Rattle.display.specs.declared.registers.Combination.the-variants.{Or, Exor, And}
-use Rattle.display.specs.Displayed.{isAttribute}
-use Rattle.display.proofs.Doors.{Panelled}
+use Rattle.state.specs.declared.panel.Panel.{Panel}
+use Rattle.state.specs.declared.registers.Combination.the-variants.{Or, Exor, And}
+use Rattle.state.specs.Combination.{isAttribute}
+use Rattle.state.proofs.Valid.{Panelled}
 use Rattle.book.specs.declared.operation.Placed.{Placed}
 use Rattle.book.specs.declared.operation.Placed.the-variants.{Text, Rectangle, Dot, Glyph, Cursor, Combine}
 use Rattle.book.specs.declared.operation.Found.{Found}

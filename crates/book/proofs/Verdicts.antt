@@ -6,9 +6,9 @@ use mathlib.Core.Logic.{⊎-elim}
 use Prim.Native.Nat.{ℕ, _-_, _*_, _≤_}
 use native.Mathlib.Omega.{arith}
 use Rattle.ground.proofs.Tests.{settled}
-use Rattle.display.specs.declared.panel.Panel.{Panel}
-use Rattle.display.specs.State.{validPanel}
-use Rattle.display.proofs.Doors.{panelled}
+use Rattle.state.specs.declared.panel.Panel.{Panel}
+use Rattle.state.specs.State.{validPanel}
+use Rattle.state.proofs.Valid.{panelled}
 use Rattle.book.specs.declared.check.Checked.{Checked}
 use Rattle.book.specs.declared.contents.Asked.{Asked}
 use Rattle.book.specs.declared.contents.Asked.the-variants.{Body as Asked-Body, Refused}

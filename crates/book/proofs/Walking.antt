@@ -3,7 +3,7 @@ use mathlib.Core.Path.{_≡_, refl, ap, sym, subst, _∙_}
 use mathlib.Core.List.{List, [], _∷_}
 use Prim.Native.Nat.{ℕ, zero, suc, _-_, _<_, _≤_}
 use native.Mathlib.Omega.{arith}
-use Rattle.display.specs.declared.panel.Panel.{Panel}
+use Rattle.state.specs.declared.panel.Panel.{Panel}
 use Rattle.book.specs.declared.operation.Placed.{Placed}
 use Rattle.book.specs.declared.operation.Found.{Found}
 use Rattle.book.specs.declared.operation.Found.the-variants.{Operation as Found-Operation, End, Faulty}

@@ -2,8 +2,8 @@
 use Prim.Native.Nat.{ℕ, _-_}
 use mathlib.Core.Bool.{cond}
 use mathlib.Core.List.{List}
-use Rattle.display.specs.declared.panel.Panel.{Panel}
-use Rattle.display.specs.State.{validPanel}
+use Rattle.state.specs.declared.panel.Panel.{Panel}
+use Rattle.state.specs.State.{validPanel}
 use Rattle.book.specs.declared.check.Checked.{Checked}
 use Rattle.book.specs.declared.contents.Asked.{Asked}
 use Rattle.book.specs.declared.contents.Asked.the-variants.{Body, Refused}

@@ -4,9 +4,9 @@ use mathlib.Core.Bool.{Bool, cond, _&&_}
 use mathlib.Core.List.{List, [], _∷_}
 use lib.Dec.{ltb, leb, eqb}
 use lib.ListN.{length, getD, take, drop}
-use Rattle.display.specs.declared.panel.Panel.{Panel}
-use Rattle.display.specs.declared.registers.Combination.{Combination}
-use Rattle.display.specs.declared.registers.Combination.the-variants.{Or, Exor, And}
+use Rattle.state.specs.declared.panel.Panel.{Panel}
+use Rattle.state.specs.declared.registers.Combination.{Combination}
+use Rattle.state.specs.declared.registers.Combination.the-variants.{Or, Exor, And}
 use Rattle.book.specs.declared.operation.Placed.{Placed}
 use Rattle.book.specs.declared.operation.Placed.the-variants.{Text, Rectangle, Dot, Glyph, Cursor, Combine}
 use Rattle.book.specs.declared.operation.Found.{Found}

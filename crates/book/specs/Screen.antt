@@ -1,7 +1,7 @@
 -- 01, Screens, and Numbers returned: a screen of a book asked for by its number.
 use Prim.Native.Nat.{ℕ, zero, suc, _-_}
 use mathlib.Core.List.{List, [], _∷_}
-use Rattle.display.specs.declared.panel.Panel.{Panel}
+use Rattle.state.specs.declared.panel.Panel.{Panel}
 use Rattle.book.specs.declared.contents.Asked.{Asked}
 use Rattle.book.specs.declared.contents.Asked.the-variants.{Body as Asked-Body, Refused}
 use Rattle.book.specs.declared.operation.Placed.{Placed}

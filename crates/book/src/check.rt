@@ -2,7 +2,7 @@
 ghost use mathlib.Core.Path.{_≡_};
 ghost use mathlib.Core.Bool.{true};
 ghost use Prim.Native.Nat.{_-_};
-ghost use Rattle.display.specs.State.{validPanel};
+ghost use Rattle.state.specs.State.{validPanel};
 ghost use Rattle.book.specs.Body.{Inside};
 ghost use Rattle.book.specs.Screen.{operationsFrom};
 ghost use Rattle.book.specs.Checked.{refusedWith, countedOf, checkedOf};
@@ -11,7 +11,7 @@ use super::contents::ask;
 use super::operation::Found;
 use super::operation::pairs;
 use super::operation::read;
-use display::panel::Panel;
+use state::panel::Panel;
 
 // A number and place; where the body begins and ends, and the pairs of its operations, 0 where it was refused.
 pub struct Checked {

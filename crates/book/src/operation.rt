@@ -8,8 +8,8 @@ use super::bytes::byte_at;
 use super::bytes::word_at;
 use super::product::below_product;
 use super::product::within_product;
-use display::panel::Panel;
-use display::registers::Combination;
+use state::panel::Panel;
+use state::registers::Combination;
 
 // An operation; codes and rows stay in the book, at a byte of it.
 pub enum Placed {

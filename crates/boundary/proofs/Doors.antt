@@ -8,7 +8,7 @@ use lib.Dec.{eqb}
 use lib.ListN.{length, set}
 use borrow.Author.Tests.{eqb-true}
 use Rattle.ground.proofs.Tests.{both-left, both-right}
-use Rattle.display.specs.State.{validPanel, resetRegisters}
+use Rattle.state.specs.State.{validPanel, resetRegisters}
 use Rattle.boundary.specs.Types.{Panel, Registers, Entry, State, Refused}
 use Rattle.boundary.specs.Image.{readable, stateOf, bytesOf}
 use Rattle.boundary.specs.Door.{entryOf, closes, keptOf, countsOf}

@@ -9,7 +9,7 @@ use lib.ListN.{length}
 use borrow.Author.Tests.{eq-eqb, ne-eqb}
 use Rattle.ground.specs.Bytes.{wordOf}
 use Rattle.ground.proofs.Tests.{settled}
-use Rattle.display.specs.State.{resetRegisters}
+use Rattle.state.specs.State.{resetRegisters}
 use Rattle.display.specs.Frame.{painted, paintOf}
 use Rattle.controller.specs.Access.{Pair, replied, accessOf}
 use Rattle.controller.specs.Run.{ranAll, runOf}

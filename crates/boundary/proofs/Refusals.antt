@@ -10,7 +10,7 @@ use lib.ListN.{length, getD, take}
 use Rattle.ground.proofs.Tests.{cond-has}
 use Rattle.ground.specs.Bytes.{wordOf}
 use Rattle.codes.specs.Command.{neededOf, isOff, endsAuto, decodeOf}
-use Rattle.display.specs.State.{validPanel, validRegisters}
+use Rattle.state.specs.State.{validPanel, validRegisters}
 use Rattle.display.specs.Frame.{lentLengths, frameFits, Painted, paintOf}
 use Rattle.controller.specs.Types.{Auto, Off, Write, Read, Decoded, Defined, Undefined}
 use Rattle.controller.specs.Access.{Pair, Machine, machine, Step, done, answered, refused, commandOf, writeOf, readOf, stepOf, Accessed, actedOf, accessOf}

@@ -5,7 +5,7 @@ use mathlib.Core.List.{List}
 use lib.Dec.{eqb}
 use lib.ListN.{length}
 use Rattle.ground.specs.Bytes.{wordOf}
-use Rattle.display.specs.State.{resetRegisters}
+use Rattle.state.specs.State.{resetRegisters}
 use Rattle.display.specs.Frame.{Painted, paintOf}
 use Rattle.controller.specs.Access.{Pair, Accessed, accessOf}
 use Rattle.controller.specs.Run.{RanAll, runOf}

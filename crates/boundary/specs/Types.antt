@@ -1,13 +1,13 @@
 -- The declared types that this crate's definitions are about, under one name.
-pub use Rattle.display.specs.declared.panel.Panel.{Panel}
-pub use Rattle.display.specs.declared.registers.Combination.{Combination}
-pub use Rattle.display.specs.declared.registers.Combination.the-variants.{Or, Exor, And, Attribute}
-pub use Rattle.display.specs.declared.registers.Display.{Display}
-pub use Rattle.display.specs.declared.registers.Auto.{Auto}
-pub use Rattle.display.specs.declared.registers.Auto.the-variants.{Off, Write, Read}
-pub use Rattle.display.specs.declared.registers.Bus.{Bus}
-pub use Rattle.display.specs.declared.registers.Registers.{Registers}
-pub use Rattle.display.specs.declared.reply.Reply.{Reply}
+pub use Rattle.state.specs.declared.panel.Panel.{Panel}
+pub use Rattle.state.specs.declared.registers.Combination.{Combination}
+pub use Rattle.state.specs.declared.registers.Combination.the-variants.{Or, Exor, And, Attribute}
+pub use Rattle.state.specs.declared.registers.Display.{Display}
+pub use Rattle.state.specs.declared.registers.Auto.{Auto}
+pub use Rattle.state.specs.declared.registers.Auto.the-variants.{Off, Write, Read}
+pub use Rattle.state.specs.declared.registers.Bus.{Bus}
+pub use Rattle.state.specs.declared.registers.Registers.{Registers}
+pub use Rattle.state.specs.declared.reply.Reply.{Reply}
 pub use Rattle.controller.specs.declared.access.Acted.{Acted}
 pub use Rattle.controller.specs.declared.run.Ran.{Ran}
 pub use Rattle.boundary.specs.declared.door.Entry.{Entry}

@@ -5,8 +5,8 @@ ghost use Rattle.boundary.specs.Door.{entryOf, closes, keptOf, countsOf}
 use super::image::decode;
 use super::image::encode;
 use super::image::is_readable;
-use display::panel::Panel;
-use display::registers::Registers;
+use state::panel::Panel;
+use state::registers::Registers;
 
 // The registers that stand in a buffer, or the number of a refusal.
 pub(crate) enum Entry {

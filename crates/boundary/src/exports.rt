@@ -9,8 +9,8 @@ use super::image::encode;
 use controller::access::access;
 use controller::run::run;
 use display::frame::paint;
-use display::panel::Panel;
-use display::registers::Registers;
+use state::panel::Panel;
+use state::registers::Registers;
 use ground::bytes::word;
 
 // One access: the number in the low byte, the byte read in the high one.

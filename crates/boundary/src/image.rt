@@ -2,15 +2,15 @@
 ghost use mathlib.Core.Path.{_≡_};
 ghost use lib.ListN.{length};
 ghost use Rattle.boundary.specs.Image.{flagByte, combinationByte, autoByte, bytesOf, combinationOf, autoOf, readable, displayOf, busOf, stateOf};
-use display::registers::Auto;
-use display::registers::Bus;
-use display::registers::Combination;
-use display::registers::Cursor;
-use display::registers::Display;
-use display::registers::Pending;
-use display::registers::Plane;
-use display::registers::Registers;
-use display::registers::Shows;
+use state::registers::Auto;
+use state::registers::Bus;
+use state::registers::Combination;
+use state::registers::Cursor;
+use state::registers::Display;
+use state::registers::Pending;
+use state::registers::Plane;
+use state::registers::Registers;
+use state::registers::Shows;
 use ground::bytes::word;
 
 fn flag_byte(flag: bool) -> u8

@@ -5,7 +5,7 @@ use Prim.Native.Nat.{ℕ, _+_, _-_, _/_, _%_, _≤_, _<_}
 use native.Mathlib.Omega.{arith}
 use lib.Dec.{ltb}
 use borrow.Author.Tests.{lt-ltb}
-use Rattle.display.specs.declared.registers.Shows.{Shows}
+use Rattle.state.specs.declared.registers.Shows.{Shows}
 use Rattle.codes.specs.Types.{Show, Height, Bit, Decoded, Defined, Undefined}
 use Rattle.codes.specs.Command.{has, heightOf, bitCodeOf, groupOf, decodeOf}
 

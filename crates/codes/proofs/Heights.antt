@@ -6,9 +6,9 @@ use native.Mathlib.Omega.{arith}
 use lib.Dec.{ltb, eqb}
 use borrow.Author.Tests.{ltb-true}
 use Rattle.ground.proofs.Tests.{cond-has}
-use Rattle.display.specs.declared.registers.Auto.{Auto}
-use Rattle.display.specs.declared.registers.Combination.{Combination}
-use Rattle.display.specs.declared.registers.Shows.{Shows}
+use Rattle.state.specs.declared.registers.Auto.{Auto}
+use Rattle.state.specs.declared.registers.Combination.{Combination}
+use Rattle.state.specs.declared.registers.Shows.{Shows}
 use Rattle.codes.specs.declared.command.Target.{Target}
 use Rattle.codes.specs.declared.command.Move.{Move}
 use Rattle.codes.specs.Types.{Command, Set, Mode, Show, Height, Run, Store, Load, Peek, Copy, Bit, Decoded, Defined, Undefined}

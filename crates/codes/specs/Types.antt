@@ -1,7 +1,7 @@
 -- The declared types that this crate's definitions are about, under one name.
-pub use Rattle.display.specs.declared.registers.Combination.the-variants.{Or, Exor, And, Attribute}
-pub use Rattle.display.specs.declared.registers.Auto.{Auto}
-pub use Rattle.display.specs.declared.registers.Auto.the-variants.{Off, Write, Read}
+pub use Rattle.state.specs.declared.registers.Combination.the-variants.{Or, Exor, And, Attribute}
+pub use Rattle.state.specs.declared.registers.Auto.{Auto}
+pub use Rattle.state.specs.declared.registers.Auto.the-variants.{Off, Write, Read}
 pub use Rattle.codes.specs.declared.command.Target.the-variants.{Cursor, Offset, Pointer, TextHome, TextArea, GraphicHome, GraphicArea}
 pub use Rattle.codes.specs.declared.command.Move.the-variants.{Up, Down, Stay}
 pub use Rattle.codes.specs.declared.command.Command.{Command}

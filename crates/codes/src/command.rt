@@ -1,9 +1,9 @@
 // The commands.
 ghost use mathlib.Core.Path.{_≡_};
 ghost use Rattle.codes.specs.Command.{neededOf, endsAuto, isOff};
-use display::registers::Auto;
-use display::registers::Combination;
-use display::registers::Shows;
+use state::registers::Auto;
+use state::registers::Combination;
+use state::registers::Shows;
 
 // What the two data of a command set.
 pub enum Target {

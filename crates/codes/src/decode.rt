@@ -4,9 +4,9 @@ ghost use Rattle.codes.specs.Command.{registerOf, controlOf, modeOf, sho
 use super::command::Command;
 use super::command::Move;
 use super::command::Target;
-use display::registers::Auto;
-use display::registers::Combination;
-use display::registers::Shows;
+use state::registers::Auto;
+use state::registers::Combination;
+use state::registers::Shows;
 
 // A code is a command, or undefined.
 pub enum Decoded {

@@ -8,8 +8,9 @@ use borrow.Author.Tests.{le-leb, lt-leb}
 use Rattle.ground.specs.Lists.{build, stored}
 use Rattle.ground.proofs.Tests.{settled}
 use Rattle.codes.specs.Command.{neededOf, isOff, endsAuto}
-use Rattle.display.specs.State.{validPanel, validRegisters, none}
-use Rattle.display.specs.Displayed.{addressOf, displayedByte, isAttribute}
+use Rattle.state.specs.State.{validPanel, validRegisters, none}
+use Rattle.display.specs.Displayed.{addressOf, displayedByte}
+use Rattle.state.specs.Combination.{isAttribute}
 use Rattle.display.specs.Frame.{lentLengths}
 use Rattle.controller.specs.Types.{Panel, Plane, Registers, Bus, Command, Position, At, Nowhere, Acted}
 use Rattle.controller.specs.Effect.{withBus, withPending, withLatch, withError}

@@ -9,7 +9,7 @@ use lib.Dec.{ltb, eqb}
 use lib.ListN.{length, getD, take, drop, set, length-set}
 use borrow.Author.Tests.{eq-eqb}
 use Rattle.ground.proofs.Tests.{cond-has, both}
-use Rattle.display.specs.State.{validPanel}
+use Rattle.state.specs.State.{validPanel}
 use Rattle.display.specs.Frame.{lentLengths}
 use Rattle.controller.specs.Types.{Panel, Registers, Turned, Ran}
 use Rattle.controller.specs.Access.{Pair, Machine, machine, Step, done, answered, refused, stepOf}

@@ -12,9 +12,9 @@ use Rattle.ground.proofs.Tests.{cond-has, both, both-left, both-right}
 use Rattle.codes.specs.Command.{neededOf, isOff, endsAuto, decodeOf}
 use Rattle.codes.specs.declared.command.Target.the-variants as target
 use Rattle.codes.proofs.Heights.{Sound, height, decode-sound}
-use Rattle.display.specs.State.{validDisplay, validBus, validRegisters, none}
-use Rattle.display.specs.Displayed.{isAttribute}
-use Rattle.display.proofs.Doors.{Displaying, displaying, display-valid, Bussing, bussing, bus-valid}
+use Rattle.state.specs.State.{validDisplay, validBus, validRegisters, none}
+use Rattle.state.specs.Combination.{isAttribute}
+use Rattle.state.proofs.Valid.{Displaying, displaying, display-valid, Bussing, bussing, bus-valid}
 use Rattle.controller.specs.Types.{Panel, Display, Bus, Pending, Registers, Auto, Off, Write, Read, Target, Command, Set, Mode, Show, Height, Run, Store, Load, Peek, Copy, Bit, Decoded, Defined, Undefined, Position, At, Nowhere}
 use Rattle.controller.specs.Effect.{pushed, setOf, statusOf}
 use Rattle.controller.specs.Position.{positionOf}

@@ -7,11 +7,12 @@ use lib.Dec.{eqb}
 use lib.ListN.{length}
 use borrow.Author.Tests.{eqb-true}
 use Rattle.ground.proofs.Tests.{both-left, both-right}
-use Rattle.display.specs.State.{validPanel, validDisplay, validBus, validRegisters}
+use Rattle.state.specs.State.{validPanel, validDisplay, validBus, validRegisters}
 use Rattle.display.specs.Displayed.{displayedByte}
 use Rattle.display.specs.Frame.{lentLengths, displayedOf}
 use Rattle.display.specs.declared.displayed.Shown.{Shown}
-use Rattle.display.proofs.Doors.{panelled, displayed-is}
+use Rattle.state.proofs.Valid.{panelled}
+use Rattle.display.proofs.Doors.{displayed-is}
 use Rattle.controller.specs.Types.{Panel, Display, Registers}
 use Rattle.controller.specs.Ready.{Ready, Runs}
 

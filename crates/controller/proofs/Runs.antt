@@ -10,7 +10,7 @@ use lib.Seq.{take-all}
 use native.Mathlib.Decide.{decLe}
 use borrow.Author.Tests.{eq-eqb, ne-eqb}
 use Rattle.ground.proofs.Tests.{settled}
-use Rattle.display.specs.State.{validPanel, validRegisters}
+use Rattle.state.specs.State.{validPanel, validRegisters}
 use Rattle.display.specs.Frame.{lentLengths}
 use Rattle.controller.specs.Types.{Panel, Registers, Ran}
 use Rattle.controller.specs.Access.{Machine, stepOf}

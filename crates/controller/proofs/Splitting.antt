@@ -9,7 +9,7 @@ use lib.ListN.{length, take, drop, set, length-set, length-take, length-drop, ta
 use lib.Seq.{take-add, drop-nil}
 use borrow.Author.Tests.{eqb-true, eq-eqb, ltb-true}
 use Rattle.ground.proofs.Tests.{both, both-left, both-right}
-use Rattle.display.specs.State.{validPanel, validRegisters}
+use Rattle.state.specs.State.{validPanel, validRegisters}
 use Rattle.display.specs.Frame.{lentLengths}
 use Rattle.controller.specs.Types.{Panel, Registers}
 use Rattle.controller.specs.Access.{Pair, Machine, machine, Step, done, answered, refused, stepOf}

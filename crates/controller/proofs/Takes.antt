@@ -9,7 +9,7 @@ use lib.ListN.{length, getD, set, length-append}
 use borrow.Author.Tests.{le-leb}
 use Rattle.ground.specs.Bytes.{withBit, wordOf}
 use Rattle.ground.specs.Lists.{stored}
-use Rattle.display.specs.State.{none}
+use Rattle.state.specs.State.{none}
 use Rattle.codes.specs.Command.{decodeOf}
 use Rattle.controller.specs.Types.{Panel, Shows, Combination, Display, Auto, Off, Write, Bus, Registers, Target, Set, Mode, Show, Height, Run, Bit, Decoded, Defined, Up}
 use Rattle.codes.specs.declared.command.Target.the-variants as target

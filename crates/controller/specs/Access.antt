@@ -7,8 +7,9 @@ use lib.ListN.{getD, set}
 use Rattle.ground.specs.Bytes.{withBit}
 use Rattle.ground.specs.Lists.{build, stored}
 use Rattle.controller.specs.Types.{Panel, Auto, Off, Write, Read, Bus, Registers, Command, Set, Mode, Show, Height, Run, Store, Load, Peek, Copy, Bit, Decoded, Defined, Undefined, Up, Position, At, Nowhere, Acted}
-use Rattle.display.specs.State.{validPanel, validRegisters, none}
-use Rattle.display.specs.Displayed.{addressOf, displayedByte, isAttribute}
+use Rattle.state.specs.State.{validPanel, validRegisters, none}
+use Rattle.display.specs.Displayed.{addressOf, displayedByte}
+use Rattle.state.specs.Combination.{isAttribute}
 use Rattle.display.specs.Frame.{lentLengths}
 use Rattle.codes.specs.Command.{decodeOf, neededOf, isOff, endsAuto}
 use Rattle.controller.specs.Effect.{withDisplay, withBus, withMode, withShows, withCursor, withPhase, withPointer, withAuto, withPending, withLatch, withError, pushed, movedOf, setOf, statusOf}

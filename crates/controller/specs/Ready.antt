@@ -5,7 +5,7 @@ use mathlib.Core.List.{List}
 use Prim.Native.Nat.{ℕ, _+_, _≤_}
 use lib.Dec.{ltb, eqb}
 use lib.ListN.{length, take, set}
-use Rattle.display.specs.State.{validPanel, validDisplay, validRegisters}
+use Rattle.state.specs.State.{validPanel, validDisplay, validRegisters}
 use Rattle.display.specs.Frame.{lentLengths}
 use Rattle.controller.specs.Types.{Panel, Display, Registers, Line, Acted, Turned}
 use Rattle.controller.specs.Access.{Machine, machine}

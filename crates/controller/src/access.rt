@@ -2,7 +2,7 @@
 ghost use mathlib.Core.Path.{_≡_};
 ghost use mathlib.Core.Bool.{not};
 ghost use lib.ListN.{length};
-ghost use Rattle.display.specs.State.{none};
+ghost use Rattle.state.specs.State.{none};
 ghost use Rattle.codes.specs.Command.{decodeOf};
 ghost use Rattle.controller.specs.Access.{machine, effectOf, dropped, obeyOf, commandOf, writeOf, readOf, stepOf, replied, actedOf, accessOf};
 ghost use Rattle.controller.specs.Effect.{withDisplay, withBus, withPhase, withPending, statusOf};
@@ -20,12 +20,12 @@ use codes::command::Move;
 use codes::command::is_off;
 use codes::decode::Decoded;
 use codes::decode::decode;
-use display::panel::Panel;
-use display::registers::Auto;
-use display::registers::Bus;
-use display::registers::Display;
-use display::registers::Pending;
-use display::registers::Registers;
+use state::panel::Panel;
+use state::registers::Auto;
+use state::registers::Bus;
+use state::registers::Display;
+use state::registers::Pending;
+use state::registers::Registers;
 use ground::bytes::with_bit;
 
 // A number and place, the registers after, and the byte read or 0.

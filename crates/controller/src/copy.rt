@@ -8,10 +8,10 @@ use crate::line::gather;
 use crate::line::store;
 use crate::position::Position;
 use crate::position::find;
-use display::combination::is_attribute;
-use display::panel::Panel;
-use display::registers::Bus;
-use display::registers::Registers;
+use state::combination::is_attribute;
+use state::panel::Panel;
+use state::registers::Bus;
+use state::registers::Registers;
 
 // The error flag set or cleared, all else as it was.
 fn with_error(registers: Registers, error: bool) -> Registers

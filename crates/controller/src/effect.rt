@@ -6,14 +6,14 @@ ghost use Prim.Native.Nat.{_+_};
 ghost use Rattle.controller.specs.Effect.{withMode, withAuto, pushed, movedOf, setOf, autoBits, statusOf};
 use codes::command::Move;
 use codes::command::Target;
-use display::registers::Auto;
-use display::registers::Bus;
-use display::registers::Combination;
-use display::registers::Cursor;
-use display::registers::Display;
-use display::registers::Pending;
-use display::registers::Plane;
-use display::registers::Registers;
+use state::registers::Auto;
+use state::registers::Bus;
+use state::registers::Combination;
+use state::registers::Cursor;
+use state::registers::Display;
+use state::registers::Pending;
+use state::registers::Plane;
+use state::registers::Registers;
 use ground::bytes::word;
 
 pub(crate) fn with_mode(display: Display, external: bool, combination: Combination) -> Display

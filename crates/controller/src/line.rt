@@ -6,8 +6,8 @@ ghost use Rattle.ground.specs.Lists.{build, stored};
 ghost use Rattle.display.specs.Displayed.{displayedByte};
 ghost use Rattle.controller.specs.Ready.{Ready, Gathered};
 use display::displayed::displayed;
-use display::panel::Panel;
-use display::registers::Display;
+use state::panel::Panel;
+use state::registers::Display;
 
 // Up to 80 bytes, and how many.
 pub(crate) struct Line {

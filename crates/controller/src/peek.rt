@@ -6,9 +6,9 @@ ghost use Rattle.controller.specs.Ready.{Ready};
 use crate::position::Position;
 use crate::position::find;
 use display::displayed::displayed;
-use display::panel::Panel;
-use display::registers::Bus;
-use display::registers::Registers;
+use state::panel::Panel;
+use state::registers::Bus;
+use state::registers::Registers;
 
 pub(crate) fn peek(panel: Panel, registers: Registers, mem: &[u8], rom: &[u8]) -> Bus
     requires { ⌜ Ready panel (registers .display) (now mem) (now rom) ⌝ }

@@ -2,8 +2,8 @@
 ghost use mathlib.Core.Path.{_≡_};
 ghost use Prim.Native.Nat.{_≤_};
 ghost use Rattle.controller.specs.Position.{positionOf};
-use display::panel::Panel;
-use display::registers::Plane;
+use state::panel::Panel;
+use state::registers::Plane;
 
 // A dot row and a column, or none.
 pub enum Position {

@@ -11,8 +11,8 @@ use crate::access::data_read;
 use crate::access::data_write;
 use crate::access::read_status;
 use crate::access::tick;
-use display::panel::Panel;
-use display::registers::Registers;
+use state::panel::Panel;
+use state::registers::Registers;
 use ground::bytes::lesser;
 
 // A number and place, the pairs taken, the answers written, the registers after.

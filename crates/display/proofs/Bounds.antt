@@ -1,40 +1,19 @@
 -- A displayed byte has 0 above its w bits, and so has a cell's.
 use mathlib.Core.List.{List}
-use mathlib.Core.Bool.{Bool, true, false, cond, _&&_, not}
+use mathlib.Core.Bool.{_&&_, not}
 use mathlib.Core.Logic.{_⊎_, ⊎-elim}
-use mathlib.Core.Path.{_≡_}
 use Prim.Native.Nat.{ℕ, _/_, _%_, _^_, _<_, _≤_}
 use native.Mathlib.Nat.{mod-lt}
 use native.Mathlib.Omega.{arith}
-use lib.Pow.{pow-pos, ones-lt, ones-sub-lt}
-use lib.Bits.{or-lt, xor-lt, and-lt}
-use Rattle.display.specs.Types.{Panel, Display, Combination, Or, Exor, And, Attribute, Show, Normal, Reverse, Inhibit}
-use Rattle.display.specs.Displayed.{lookOf, shownAs, attributed, isAttribute, combined, glyphDots, textDots, graphicDots, displayedByte, cursorLit, cursorCovers, cellByte}
+use lib.Pow.{pow-pos, ones-lt}
+use Rattle.state.proofs.Widths.{cond-lt, combined-lt, attributed-lt}
+use Rattle.display.specs.Types.{Panel, Display}
+use Rattle.state.specs.Combination.{isAttribute}
+use Rattle.display.specs.Displayed.{glyphDots, textDots, graphicDots, displayedByte, cursorLit, cursorCovers, cellByte}
 use Rattle.display.specs.Drawable.{Drawable}
 
 pub wide : {p : Panel} {d : Display} {mem rom : List ℕ} → Drawable p d mem rom → (6 ≤ p .width) × (p .width ≤ 8)
 wide k = ⊎-elim (λ e. omega arith) (λ e. omega arith) (k .width)
-
-module _ (w : ℕ) where
-  cond-lt : (b : Bool) (x y : ℕ) → x < 2 ^ w → y < 2 ^ w → cond b x y < 2 ^ w
-  cond-lt true x y h k = h
-  cond-lt false x y h k = k
-
-  shown-lt : (s : Show) (n : ℕ) → n < 2 ^ w → shownAs s w n < 2 ^ w
-  shown-lt Normal n h = h
-  shown-lt Reverse n h = ones-sub-lt w n
-  shown-lt Inhibit n h = pow-pos w
-
-  pub combined-lt : (k : Combination) (t g : ℕ) → t < 2 ^ w → g < 2 ^ w → combined k t g < 2 ^ w
-  combined-lt Or t g h k = or-lt w t g h k
-  combined-lt Exor t g h k = xor-lt w t g h k
-  combined-lt And t g h k = and-lt w t g h k
-  combined-lt Attribute t g h k = h
-
-  attributed-lt : (normal : Bool) (a n : ℕ) → n < 2 ^ w → attributed w normal a n < 2 ^ w
-  unfolding attributed
-  attributed-lt normal a n h =
-      cond-lt (lookOf (a % 16) .blinks && not normal) 0 (shownAs (lookOf (a % 16) .shown) w n) (pow-pos w) (shown-lt (lookOf (a % 16) .shown) n h)
 
 module _ (p : Panel) (d : Display) (mem rom : List ℕ) (r c : ℕ) where
   pub glyph-lt : glyphDots p d mem rom r c < 2 ^ p .width

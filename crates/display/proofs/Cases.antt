@@ -6,7 +6,9 @@ use Prim.Native.Nat.{ℕ, _-_, _/_, _%_, _^_}
 use lib.ListN.{getD}
 use borrow.Author.Tests.{not-true, not-false}
 use Rattle.display.specs.Types.{Panel, Display}
-use Rattle.display.specs.Displayed.{addressOf, textCode, glyphRow, graphicByte, attributed, attributeByte, isAttribute, textLayer, mixed, glyphDots, textDots, graphicDots, displayedByte, cursorLit, cursorCovers, cellByte}
+use Rattle.display.specs.Displayed.{addressOf, textCode, glyphRow, graphicByte, attributeByte, textLayer, mixed, glyphDots, textDots, graphicDots, displayedByte, cursorLit, cursorCovers, cellByte}
+use Rattle.state.specs.Attribute.{attributed}
+use Rattle.state.specs.Combination.{isAttribute}
 
 -- over plain values: a rewrite by a flag must meet no whole record of registers, in which the flag stands too
 module _ (t g a : Bool) (x y : ℕ) where

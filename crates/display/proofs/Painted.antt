@@ -10,7 +10,7 @@ use Rattle.ground.specs.Packing.{packed, rowBytes, frameFrom, rowFrom}
 use Rattle.ground.proofs.Frames as frames
 use Rattle.ground.proofs.Tests.{both-right}
 use Rattle.display.specs.Types.{Panel, Display, Registers}
-use Rattle.display.specs.State.{validPanel, validRegisters}
+use Rattle.state.specs.State.{validPanel, validRegisters}
 use Rattle.display.specs.Displayed.{cellByte}
 use Rattle.display.specs.Frame.{dotOf, rowOf, frameOf, lentLengths, frameFits, replyOf, painted, paintOf}
 

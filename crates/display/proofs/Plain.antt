@@ -6,7 +6,9 @@ use Prim.Native.Nat.{ℕ, _+_, _-_, _*_, _/_, _%_, _^_}
 use lib.Dec.{ltb}
 use lib.ListN.{getD}
 use Rattle.display.specs.Types.{Panel, Plane, Cursor, Display, Combination}
-use Rattle.display.specs.Displayed.{addressOf, textCode, glyphRow, graphicByte, attributeByte, attributed, isAttribute, combined, glyphDots, textDots, graphicDots, displayedByte, cursorLit, cursorCovers, cellByte}
+use Rattle.display.specs.Displayed.{addressOf, textCode, glyphRow, graphicByte, attributeByte, glyphDots, textDots, graphicDots, displayedByte, cursorLit, cursorCovers, cellByte}
+use Rattle.state.specs.Attribute.{attributed}
+use Rattle.state.specs.Combination.{isAttribute, combined}
 
 abbrev pub plain : Plane → Plane → ℕ → Combination → Bool → Bool → Cursor → Bool → Display
 plain text graphic offset k on blink cursor phase =

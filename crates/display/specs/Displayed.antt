@@ -1,11 +1,12 @@
 -- 01, A displayed byte: for cell column c, dot row r, line l = r div 8, v = r mod 8.
 use Prim.Native.Nat.{ℕ, _+_, _-_, _*_, _/_, _%_, _^_}
 use mathlib.Core.List.{List}
-use mathlib.Core.Bool.{Bool, true, false, cond, not, _&&_, _||_}
+use mathlib.Core.Bool.{Bool, cond, not, _&&_, _||_}
 use lib.Dec.{ltb, leb, eqb}
-use lib.Bits.{bitOr, bitXor, bitAnd}
 use lib.ListN.{getD}
-use Rattle.display.specs.Types.{Panel, Plane, Cursor, Display, Combination, Or, Exor, And, Attribute, Show, Normal, Reverse, Inhibit, Look}
+use Rattle.state.specs.Attribute.{attributed}
+use Rattle.state.specs.Combination.{isAttribute, combined}
+use Rattle.display.specs.Types.{Panel, Plane, Cursor, Display, Combination}
 
 -- home + row·area + column, modulo 65,536
 abbrev pub addressOf : Plane → ℕ → ℕ → ℕ
@@ -29,38 +30,6 @@ graphicByte d mem r c = getD mem (addressOf (d .graphic) r c) 0
 -- the attribute byte: at graphic home + l·graphic area + c, for all eight rows
 unfoldable pub attributeByte : Display → List ℕ → ℕ → ℕ → ℕ
 attributeByte d mem l c = getD mem (addressOf (d .graphic) l c) 0
-
--- the table: 0 normal, 5 reverse, 3 inhibit; 8, 13, 11 the same with blink; the other ten normal, steady (H)
-unfoldable pub lookOf : ℕ → Look
-lookOf n =
-    record {
-      shown = cond (eqb n 5 || eqb n 13) Reverse (cond (eqb n 3 || eqb n 11) Inhibit Normal);
-      blinks = eqb n 8 || eqb n 13 || eqb n 11;
-    }
-
--- normal; reverse, w bits complemented; inhibit, 0
-abbrev pub shownAs : Show → ℕ → ℕ → ℕ
-shownAs Normal w n = n
-shownAs Reverse w n = 2 ^ w - 1 - n
-shownAs Inhibit w n = 0
-
--- w bits under an attribute byte, whose low four bits are its code; blink shows 0 in phase off (H)
-unfoldable pub attributed : ℕ → Bool → ℕ → ℕ → ℕ
-attributed w normal attribute n =
-    cond (lookOf (attribute % 16) .blinks && not normal) 0 (shownAs (lookOf (attribute % 16) .shown) w n)
-
-abbrev pub isAttribute : Combination → Bool
-isAttribute Or = false
-isAttribute Exor = false
-isAttribute And = false
-isAttribute Attribute = true
-
--- text and graphic both on: their OR, EXOR or AND; in attribute mode the text shows alone
-abbrev pub combined : Combination → ℕ → ℕ → ℕ
-combined Or t g = bitOr t g
-combined Exor t g = bitXor t g
-combined And t g = bitAnd t g
-combined Attribute t g = t
 
 -- the low w bits of the cell's glyph row
 unfoldable pub glyphDots : Panel → Display → List ℕ → List ℕ → ℕ → ℕ → ℕ

@@ -6,7 +6,7 @@ use lib.Dec.{eqb}
 use lib.ListN.{length}
 use Rattle.ground.specs.Packing.{rowBytes, dotAt, rowFrom, frameFrom}
 use Rattle.display.specs.Types.{Panel, Display, Registers, Reply, Shown}
-use Rattle.display.specs.State.{validPanel, validDisplay, validRegisters}
+use Rattle.state.specs.State.{validPanel, validDisplay, validRegisters}
 use Rattle.display.specs.Displayed.{displayedByte, cellByte}
 
 -- dot x of dot row r

@@ -1,5 +1,4 @@
 pub mod Types
-pub mod State
 pub mod Displayed
 pub mod Frame
 pub mod Drawable

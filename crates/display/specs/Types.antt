@@ -1,18 +1,15 @@
--- The declared types of this crate, under one name.
-pub use Rattle.display.specs.declared.panel.Panel.{Panel}
-pub use Rattle.display.specs.declared.registers.Plane.{Plane}
-pub use Rattle.display.specs.declared.registers.Cursor.{Cursor}
-pub use Rattle.display.specs.declared.registers.Shows.{Shows}
-pub use Rattle.display.specs.declared.registers.Combination.{Combination}
-pub use Rattle.display.specs.declared.registers.Combination.the-variants.{Or, Exor, And, Attribute}
-pub use Rattle.display.specs.declared.registers.Display.{Display}
-pub use Rattle.display.specs.declared.registers.Auto.{Auto}
-pub use Rattle.display.specs.declared.registers.Auto.the-variants.{Off, Write, Read}
-pub use Rattle.display.specs.declared.registers.Pending.{Pending}
-pub use Rattle.display.specs.declared.registers.Bus.{Bus}
-pub use Rattle.display.specs.declared.registers.Registers.{Registers}
-pub use Rattle.display.specs.declared.attribute.Show.{Show}
-pub use Rattle.display.specs.declared.attribute.Show.the-variants.{Normal, Reverse, Inhibit}
-pub use Rattle.display.specs.declared.attribute.Look.{Look}
-pub use Rattle.display.specs.declared.reply.Reply.{Reply}
+-- The declared types that this crate's definitions are about, under one name.
+pub use Rattle.state.specs.declared.panel.Panel.{Panel}
+pub use Rattle.state.specs.declared.registers.Plane.{Plane}
+pub use Rattle.state.specs.declared.registers.Cursor.{Cursor}
+pub use Rattle.state.specs.declared.registers.Shows.{Shows}
+pub use Rattle.state.specs.declared.registers.Combination.{Combination}
+pub use Rattle.state.specs.declared.registers.Combination.the-variants.{Or, Exor, And, Attribute}
+pub use Rattle.state.specs.declared.registers.Display.{Display}
+pub use Rattle.state.specs.declared.registers.Auto.{Auto}
+pub use Rattle.state.specs.declared.registers.Auto.the-variants.{Off, Write, Read}
+pub use Rattle.state.specs.declared.registers.Pending.{Pending}
+pub use Rattle.state.specs.declared.registers.Bus.{Bus}
+pub use Rattle.state.specs.declared.registers.Registers.{Registers}
+pub use Rattle.state.specs.declared.reply.Reply.{Reply}
 pub use Rattle.display.specs.declared.displayed.Shown.{Shown}

@@ -3,17 +3,18 @@ ghost use mathlib.Core.Path.{_≡_};
 ghost use mathlib.Core.Logic.{_⊎_};
 ghost use Prim.Native.Nat.{_-_, _/_, _%_, _^_, _≤_, _<_};
 ghost use lib.ListN.{length, getD};
-ghost use Rattle.display.specs.Displayed.{addressOf, glyphRow, attributed, glyphDots, textDots, graphicDots, mixed, attributeByte, displayedByte, cursorLit, cursorCovers, cellByte};
+ghost use Rattle.display.specs.Displayed.{addressOf, glyphRow, glyphDots, textDots, graphicDots, mixed, attributeByte, displayedByte, cursorLit, cursorCovers, cellByte};
+ghost use Rattle.state.specs.Attribute.{attributed};
 ghost use Rattle.display.specs.Drawable.{Drawable};
-use super::attribute::Show;
-use super::attribute::look_at;
-use super::combination::combine;
-use super::combination::is_attribute;
-use super::panel::Panel;
-use super::registers::Combination;
-use super::registers::Cursor;
-use super::registers::Display;
-use super::registers::Plane;
+use state::attribute::Show;
+use state::attribute::look_at;
+use state::combination::combine;
+use state::combination::is_attribute;
+use state::panel::Panel;
+use state::registers::Combination;
+use state::registers::Cursor;
+use state::registers::Display;
+use state::registers::Plane;
 
 // The low w bits set.
 fn full(width: usize) -> u8

@@ -2,8 +2,8 @@
 ghost use mathlib.Core.Path.{_≡_};
 ghost use Rattle.display.specs.Frame.{displayedOf};
 use super::cell::shown_byte;
-use super::panel::Panel;
-use super::registers::Display;
+use state::panel::Panel;
+use state::registers::Display;
 
 // A number, its place 0, and the byte, 0 where it was refused.
 pub struct Shown {

@@ -5,10 +5,10 @@ ghost use lib.ListN.{length};
 ghost use Rattle.ground.specs.Packing.{rowBytes};
 ghost use Rattle.display.specs.Frame.{frameOf, painted, paintOf};
 ghost use Rattle.display.specs.Drawable.{Drawable};
-use super::panel::Panel;
-use super::registers::Display;
-use super::registers::Registers;
-use super::reply::Reply;
+use state::panel::Panel;
+use state::registers::Display;
+use state::registers::Registers;
+use state::reply::Reply;
 use super::row::paint_row;
 
 // R, the bytes of a row.

@@ -1,10 +1,5 @@
-// What the panel shows: the panel, the registers, and from them every dot.
-pub mod attribute;
+// What the panel shows: from a state and the lent memory every dot.
 mod cell;
-pub mod combination;
 pub mod displayed;
 pub mod frame;
-pub mod panel;
-pub mod registers;
-pub mod reply;
 mod row;

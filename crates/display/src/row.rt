@@ -6,8 +6,8 @@ ghost use Rattle.ground.specs.Packing.{rowBytes, packed};
 ghost use Rattle.display.specs.Frame.{dotOf, rowOf};
 ghost use Rattle.display.specs.Drawable.{Drawable};
 use super::cell::cell_byte;
-use super::panel::Panel;
-use super::registers::Display;
+use state::panel::Panel;
+use state::registers::Display;
 
 // Dot x of a dot row, 0 past the last cell.
 fn dot(panel: Panel, display: Display, mem: &[u8], rom: &[u8], row: usize, x: usize) -> u8

@@ -3,7 +3,7 @@
 ghost use mathlib.Core.Path.{_≡_};
 ghost use Prim.Native.Nat.{_≤_};
 ghost use lib.ListN.{length};
-use display::panel::Panel;
+use state::panel::Panel;
 use libc::STDIN_FILENO;
 use libc::STDOUT_FILENO;
 use picture::draw::draw;

@@ -8,9 +8,9 @@ use lib.ListN.{length}
 use borrow.Author.Tests.{eqb-true, not-true, not-false}
 use Rattle.ground.specs.Packing.{rowBytes}
 use Rattle.ground.proofs.Tests.{both-left, both-right, settled}
-use Rattle.display.specs.declared.panel.Panel.{Panel}
-use Rattle.display.specs.declared.reply.Reply.{Reply}
-use Rattle.display.specs.State.{validPanel}
+use Rattle.state.specs.declared.panel.Panel.{Panel}
+use Rattle.state.specs.declared.reply.Reply.{Reply}
+use Rattle.state.specs.State.{validPanel}
 use Rattle.display.specs.Frame.{frameFits, replyOf}
 use Rattle.book.specs.declared.check.Checked.{Checked}
 use Rattle.book.specs.Screen.{Screen, screen, screenOf, operationsFrom}

@@ -7,9 +7,9 @@ use lib.ListN.{length, getD, set, length-set, length-replicate}
 use lib.Seq.{sets, length-sets}
 use Rattle.ground.specs.Bytes.{withBit}
 use Rattle.ground.specs.Lists.{zeros}
-use Rattle.display.specs.declared.panel.Panel.{Panel}
-use Rattle.display.specs.declared.registers.Combination.the-variants.{Or}
-use Rattle.display.specs.State.{validPanel}
+use Rattle.state.specs.declared.panel.Panel.{Panel}
+use Rattle.state.specs.declared.registers.Combination.the-variants.{Or}
+use Rattle.state.specs.State.{validPanel}
 use Rattle.book.specs.declared.operation.Placed.{Placed}
 use Rattle.book.specs.declared.operation.Found.{Found}
 use Rattle.book.specs.declared.operation.Found.the-variants.{Operation as Found-Operation, End, Faulty}

@@ -15,8 +15,8 @@ use Rattle.ground.specs.Packing.{rowBytes, rowFrom, packOf}
 use Rattle.ground.proofs.Filling.{Filled}
 use Rattle.ground.proofs.Lists.{build-length, build-at}
 use Rattle.ground.proofs.Packs.{packed-by-rule}
-use Rattle.display.specs.declared.panel.Panel.{Panel}
-use Rattle.display.specs.Displayed.{combined}
+use Rattle.state.specs.declared.panel.Panel.{Panel}
+use Rattle.state.specs.Combination.{combined}
 use Rattle.picture.specs.declared.style.Style.{Style}
 use Rattle.picture.specs.Picture.{pictureGlyph, litIn, coveredBy, pictureCell}
 use Rattle.picture.specs.Layers.{glyphIn, textDots, graphicDots}

@@ -7,9 +7,9 @@ use Prim.Native.Nat.{ℕ, _+_, _-_, _*_, _/_, _%_, _≤_, _<_}
 use native.Mathlib.Nat.{mul-le-mul, mul-le-mul-right, suc-mul, mod-lt, div-lt-iff-lt-mul}
 use native.Mathlib.Omega.{arith}
 use Rattle.ground.specs.Packing.{rowBytes}
-use Rattle.display.specs.declared.panel.Panel.{Panel}
-use Rattle.display.specs.State.{validPanel}
-use Rattle.display.proofs.Doors.{panelled, narrow}
+use Rattle.state.specs.declared.panel.Panel.{Panel}
+use Rattle.state.specs.State.{validPanel}
+use Rattle.state.proofs.Valid.{panelled, narrow}
 use Rattle.book.specs.Operation.{dotByte, dotBit}
 use Rattle.book.specs.Range.{TextRange, RectangleRange, DotRange}
 use Rattle.picture.specs.Ready.{graphicBytes, cellsOf, OnPanel}

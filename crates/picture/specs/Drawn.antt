@@ -4,9 +4,9 @@ use mathlib.Core.Bool.{Bool, cond, _&&_}
 use mathlib.Core.List.{List}
 use lib.Dec.{eqb}
 use lib.ListN.{length}
-use Rattle.display.specs.declared.panel.Panel.{Panel}
-use Rattle.display.specs.declared.reply.Reply.{Reply}
-use Rattle.display.specs.State.{validPanel}
+use Rattle.state.specs.declared.panel.Panel.{Panel}
+use Rattle.state.specs.declared.reply.Reply.{Reply}
+use Rattle.state.specs.State.{validPanel}
 use Rattle.display.specs.Frame.{frameFits, replyOf}
 use Rattle.book.specs.Screen.{Screen, screen, refused, screenOf}
 use Rattle.picture.specs.Picture.{pictureOf, pictureFrame}

@@ -4,7 +4,7 @@ use mathlib.Core.Bool.{cond}
 use mathlib.Core.List.{List}
 use lib.Dec.{ltb}
 use lib.ListN.{getD}
-use Rattle.display.specs.declared.panel.Panel.{Panel}
+use Rattle.state.specs.declared.panel.Panel.{Panel}
 
 -- codes below 80H from the ROM
 unfoldable pub glyphIn : List ℕ → List ℕ → ℕ → ℕ → ℕ

@@ -8,10 +8,11 @@ use lib.Seq.{sets}
 use Rattle.ground.specs.Bytes.{withBit}
 use Rattle.ground.specs.Lists.{zeros}
 use Rattle.ground.specs.Packing.{frameFrom}
-use Rattle.display.specs.declared.panel.Panel.{Panel}
-use Rattle.display.specs.declared.registers.Combination.{Combination}
-use Rattle.display.specs.declared.registers.Combination.the-variants.{Or}
-use Rattle.display.specs.Displayed.{combined, cursorLit, cursorCovers}
+use Rattle.state.specs.declared.panel.Panel.{Panel}
+use Rattle.state.specs.declared.registers.Combination.{Combination}
+use Rattle.state.specs.declared.registers.Combination.the-variants.{Or}
+use Rattle.state.specs.Combination.{combined}
+use Rattle.display.specs.Displayed.{cursorLit, cursorCovers}
 use Rattle.book.specs.Operation.{Operation, text, rectangle, dot, glyph, cursor, combine, dotByte, dotBit}
 use Rattle.picture.specs.declared.cursor.Laid.{Laid}
 use Rattle.picture.specs.declared.cursor.Laid.the-variants.{Nowhere, Over}

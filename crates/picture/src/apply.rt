@@ -17,9 +17,9 @@ use super::style::Style;
 use book::operation::Found;
 use book::operation::Placed;
 use book::operation::read;
-use display::panel::Panel;
-use display::registers::Combination;
-use display::registers::Cursor;
+use state::panel::Panel;
+use state::registers::Combination;
+use state::registers::Cursor;
 use ground::bytes::with_bit;
 
 // Operation 1: a text's codes from its cell on.

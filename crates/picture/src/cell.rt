@@ -7,8 +7,8 @@ ghost use Rattle.picture.specs.Picture.{pictureCell};
 ghost use Rattle.picture.specs.Layers.{glyphIn, textDots, graphicDots};
 ghost use Rattle.picture.specs.Ready.{pictureWith, cellsOf, graphicBytes, InPlane, OnPanel, Paintable};
 use super::style::Style;
-use display::combination::combine;
-use display::panel::Panel;
+use state::combination::combine;
+use state::panel::Panel;
 
 // The low w bits set.
 fn full(width: usize) -> u8

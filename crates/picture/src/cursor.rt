@@ -3,8 +3,8 @@ ghost use mathlib.Core.Path.{_≡_};
 ghost use Prim.Native.Nat.{_<_};
 ghost use Rattle.display.specs.Displayed.{cursorCovers};
 ghost use Rattle.picture.specs.Picture.{litIn, coveredBy};
-use display::panel::Panel;
-use display::registers::Cursor;
+use state::panel::Panel;
+use state::registers::Cursor;
 
 // None, or a cursor that blinks or does not.
 pub enum Laid {

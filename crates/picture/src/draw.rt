@@ -5,8 +5,8 @@ use super::apply::picture;
 use super::paint::paint_rows;
 use super::paint::row_bytes;
 use book::check::check;
-use display::panel::Panel;
-use display::reply::Reply;
+use state::panel::Panel;
+use state::reply::Reply;
 
 // The picture's planes and its dots in a phase, true where it is normal, unless the panel, a length, the book or the screen is refused.
 pub fn draw(

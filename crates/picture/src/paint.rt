@@ -7,7 +7,7 @@ ghost use Rattle.picture.specs.Picture.{pictureCell, pictureFrame};
 ghost use Rattle.picture.specs.Ready.{pictureWith, Paintable};
 use super::cell::cell;
 use super::style::Style;
-use display::panel::Panel;
+use state::panel::Panel;
 use ground::cells::pack;
 
 // R, the bytes of a row.

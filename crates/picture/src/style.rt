@@ -1,6 +1,6 @@
 // All of a picture but its planes.
 use super::cursor::Laid;
-use display::registers::Combination;
+use state::registers::Combination;
 
 pub(crate) struct Style {
     pub combination: Combination,

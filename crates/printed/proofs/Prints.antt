@@ -16,9 +16,9 @@ use Rattle.ground.specs.Lists.{build, zeros}
 use Rattle.ground.specs.Packing.{rowBytes}
 use Rattle.ground.proofs.Lists.{joined-length}
 use Rattle.ground.proofs.Tests.{both, both-left, both-right}
-use Rattle.display.specs.State.{validPanel, validRegisters, resetRegisters}
+use Rattle.state.specs.State.{validPanel, validRegisters, resetRegisters}
 use Rattle.display.specs.Frame.{frameOf, lentLengths, painted, Painted, paintOf, replyOf}
-use Rattle.display.proofs.Doors.{Panelled, panelled, narrow}
+use Rattle.state.proofs.Valid.{Panelled, panelled, narrow}
 use Rattle.controller.specs.Types.{Panel, Registers}
 use Rattle.controller.specs.declared.run.Ran.{Ran}
 use Rattle.controller.specs.Access.{stepOf}

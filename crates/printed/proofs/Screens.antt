@@ -9,9 +9,9 @@ use lib.ListN.{length}
 use borrow.Author.Tests.{eqb-true, eq-eqb, ne-eqb}
 use Rattle.ground.specs.Packing.{rowBytes}
 use Rattle.ground.proofs.Tests.{both-left, both-right}
-use Rattle.display.specs.State.{validPanel}
+use Rattle.state.specs.State.{validPanel}
 use Rattle.display.specs.Frame.{frameFits}
-use Rattle.display.proofs.Doors.{Panelled, panelled}
+use Rattle.state.proofs.Valid.{Panelled, panelled}
 use Rattle.controller.specs.Types.{Panel}
 use Rattle.printed.specs.Put.{Put}
 use Rattle.printed.specs.Printed.{frameLines, printed, printText}

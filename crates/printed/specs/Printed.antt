@@ -6,7 +6,7 @@ use lib.Dec.{eqb}
 use lib.ListN.{length, getD, take, drop}
 use Rattle.ground.specs.Lists.{build, joined, zeros}
 use Rattle.ground.specs.Packing.{rowBytes}
-use Rattle.display.specs.State.{resetRegisters}
+use Rattle.state.specs.State.{resetRegisters}
 use Rattle.display.specs.Frame.{frameOf}
 use Rattle.controller.specs.Types.{Panel}
 use Rattle.controller.specs.declared.run.Ran.{Ran}

@@ -6,7 +6,7 @@ use Prim.Native.Nat.{ℕ, _+_, _*_, _≤_}
 use lib.Dec.{eqb}
 use lib.ListN.{length}
 use Rattle.ground.specs.Packing.{rowBytes}
-use Rattle.display.specs.State.{validPanel, validRegisters}
+use Rattle.state.specs.State.{validPanel, validRegisters}
 use Rattle.display.specs.Frame.{lentLengths}
 use Rattle.controller.specs.Types.{Panel, Registers}
 use Rattle.controller.specs.declared.run.Ran.{Ran}

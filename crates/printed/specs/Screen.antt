@@ -5,7 +5,7 @@ use mathlib.Core.List.{List, [], _++_}
 use lib.Dec.{eqb}
 use lib.ListN.{length}
 use Rattle.ground.specs.Packing.{rowBytes}
-use Rattle.display.specs.State.{validPanel}
+use Rattle.state.specs.State.{validPanel}
 use Rattle.display.specs.Frame.{frameFits}
 use Rattle.controller.specs.Types.{Panel}
 use Rattle.printed.specs.Printed.{refusalLine, firstLine, frameLines, Printed, printText}

@@ -2,7 +2,7 @@
 ghost use mathlib.Core.Path.{_≡_};
 ghost use lib.ListN.{getD, drop};
 ghost use Rattle.printed.specs.Printed.{panelIn, logIn};
-use display::panel::Panel;
+use state::panel::Panel;
 use ground::bytes::lesser;
 
 // A byte of the input, 0 where it is missing.

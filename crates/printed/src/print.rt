@@ -18,8 +18,8 @@ use crate::put::put_hex_lines;
 use controller::run::Ran;
 use controller::run::run;
 use display::frame::paint;
-use display::panel::Panel;
-use display::registers::Registers;
+use state::panel::Panel;
+use state::registers::Registers;
 
 // The frame, painted and then as text.
 fn put_frame(

@@ -7,7 +7,7 @@ ghost use Rattle.ground.specs.Packing.{rowBytes};
 ghost use Rattle.printed.specs.Put.{Put};
 ghost use Rattle.printed.specs.Text.{decimal, hexDigit, hexLine, hexLines, dotMark, dotLine};
 ghost use Rattle.printed.specs.Printed.{refusalLine, firstLine, frameLines};
-use display::panel::Panel;
+use state::panel::Panel;
 use ground::bytes::bit;
 
 // One character.

@@ -9,7 +9,7 @@ use crate::print::frame_size;
 use crate::put::put_first_line;
 use crate::put::put_frame_lines;
 use crate::put::put_refusal;
-use display::panel::Panel;
+use state::panel::Panel;
 
 // 8·L·R, the bytes of a valid panel's frame; 0 where it is not valid.
 pub fn frame_bytes(panel: Panel) -> usize

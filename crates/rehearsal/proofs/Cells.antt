@@ -8,11 +8,12 @@ use native.Mathlib.Omega.{arith}
 use lib.Dec.{ltb}
 use lib.ListN.{getD}
 use borrow.Author.Tests.{ltb-false}
-use Rattle.display.specs.declared.panel.Panel.{Panel}
-use Rattle.display.specs.declared.registers.Cursor.{Cursor}
-use Rattle.display.specs.declared.registers.Display.{Display}
-use Rattle.display.specs.State.{validPanel}
-use Rattle.display.specs.Displayed.{addressOf, combined, cursorLit, cursorCovers, cellByte}
+use Rattle.state.specs.declared.panel.Panel.{Panel}
+use Rattle.state.specs.declared.registers.Cursor.{Cursor}
+use Rattle.state.specs.declared.registers.Display.{Display}
+use Rattle.state.specs.State.{validPanel}
+use Rattle.display.specs.Displayed.{addressOf, cursorLit, cursorCovers, cellByte}
+use Rattle.state.specs.Combination.{combined}
 use Rattle.display.specs.Frame.{frameOf}
 use Rattle.display.proofs.Painted.{frame-by-rule}
 use Rattle.display.proofs.Plain.{plain, plainGlyph, cell-plain}

@@ -10,9 +10,9 @@ use lib.ListN.{length, getD, set, take, drop}
 use lib.Seq.{sets, sets-eq, length-sets, take-at, getD-set-other}
 use borrow.Author.Tests.{ltb-false, leb-false, eq-eqb}
 use Rattle.ground.proofs.Tests.{both}
-use Rattle.display.specs.declared.panel.Panel.{Panel}
-use Rattle.display.specs.declared.registers.Registers.{Registers}
-use Rattle.display.specs.State.{validRegisters}
+use Rattle.state.specs.declared.panel.Panel.{Panel}
+use Rattle.state.specs.declared.registers.Registers.{Registers}
+use Rattle.state.specs.State.{validRegisters}
 use Rattle.controller.specs.Run.{logOf, RanAll, ranAll, runOf}
 use Rattle.controller.proofs.Logs.{log-length, run-takes, takes-valid}
 use Rattle.book.specs.Operation.{Operation}

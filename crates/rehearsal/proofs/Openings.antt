@@ -9,10 +9,10 @@ use lib.ListN.{length, getD, take, drop, length-take, length-drop, length-replic
 use lib.Seq.{sets, drop-drop}
 use Rattle.ground.specs.Lists.{zeros}
 use Rattle.ground.proofs.Stores.{sets-all}
-use Rattle.display.specs.declared.panel.Panel.{Panel}
-use Rattle.display.specs.declared.registers.Combination.the-variants.{Or}
-use Rattle.display.specs.declared.registers.Registers.{Registers}
-use Rattle.display.specs.State.{validPanel}
+use Rattle.state.specs.declared.panel.Panel.{Panel}
+use Rattle.state.specs.declared.registers.Combination.the-variants.{Or}
+use Rattle.state.specs.declared.registers.Registers.{Registers}
+use Rattle.state.specs.State.{validPanel}
 use Rattle.codes.specs.declared.command.Target.the-variants as target
 use Rattle.controller.specs.Access.{Pair, machine, stepOf}
 use Rattle.controller.proofs.Takes.{Takes, takes-both, resting, off-taken, word-taken, mode-taken, show-taken}

@@ -11,12 +11,13 @@ use lib.Seq.{sets}
 use borrow.Author.Tests.{eqb-true, eq-eqb, le-ltb}
 use Rattle.ground.specs.Packing.{rowBytes}
 use Rattle.ground.proofs.Tests.{both, both-left, both-right, settled}
-use Rattle.display.specs.declared.panel.Panel.{Panel}
-use Rattle.display.specs.declared.registers.Registers.{Registers}
-use Rattle.display.specs.declared.reply.Reply.{Reply}
-use Rattle.display.specs.State.{validPanel, validRegisters}
+use Rattle.state.specs.declared.panel.Panel.{Panel}
+use Rattle.state.specs.declared.registers.Registers.{Registers}
+use Rattle.state.specs.declared.reply.Reply.{Reply}
+use Rattle.state.specs.State.{validPanel, validRegisters}
 use Rattle.display.specs.Frame.{lentLengths, frameFits, Painted, painted, paintOf}
-use Rattle.display.proofs.Doors.{panelled, narrow, painting-0}
+use Rattle.state.proofs.Valid.{panelled, narrow}
+use Rattle.display.proofs.Doors.{painting-0}
 use Rattle.controller.specs.declared.run.Ran.{Ran}
 use Rattle.controller.specs.Run.{logOf, RanAll, ranAll, runOf}
 use Rattle.book.specs.Operation.{Operation}

@@ -9,15 +9,15 @@ use lib.ListN.{length, getD, set, take, drop, replicate, length-replicate, lengt
 use lib.Seq.{sets, length-sets}
 use Rattle.ground.specs.Bytes.{withBit, wordOf}
 use Rattle.ground.specs.Lists.{stored}
-use Rattle.display.specs.declared.panel.Panel.{Panel}
-use Rattle.display.specs.declared.registers.Plane.{Plane}
-use Rattle.display.specs.declared.registers.Cursor.{Cursor}
-use Rattle.display.specs.declared.registers.Combination.{Combination}
-use Rattle.display.specs.declared.registers.Combination.the-variants.{Or, Exor, And, Attribute}
-use Rattle.display.specs.declared.registers.Display.{Display}
-use Rattle.display.specs.declared.registers.Registers.{Registers}
-use Rattle.display.specs.State.{validPanel}
-use Rattle.display.specs.Displayed.{isAttribute}
+use Rattle.state.specs.declared.panel.Panel.{Panel}
+use Rattle.state.specs.declared.registers.Plane.{Plane}
+use Rattle.state.specs.declared.registers.Cursor.{Cursor}
+use Rattle.state.specs.declared.registers.Combination.{Combination}
+use Rattle.state.specs.declared.registers.Combination.the-variants.{Or, Exor, And, Attribute}
+use Rattle.state.specs.declared.registers.Display.{Display}
+use Rattle.state.specs.declared.registers.Registers.{Registers}
+use Rattle.state.specs.State.{validPanel}
+use Rattle.state.specs.Combination.{isAttribute}
 use Rattle.display.proofs.Plain.{plain}
 use Rattle.codes.specs.Command.{decodeOf}
 use Rattle.codes.specs.declared.command.Target.the-variants as target

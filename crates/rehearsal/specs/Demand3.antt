@@ -6,9 +6,9 @@ use Prim.Native.Nat.{ℕ, _+_, _*_, _<_, _≤_}
 use lib.Dec.{ltb, leb}
 use lib.ListN.{length, getD, take}
 use lib.Seq.{sets}
-use Rattle.display.specs.declared.panel.Panel.{Panel}
-use Rattle.display.specs.declared.registers.Registers.{Registers}
-use Rattle.display.specs.State.{validRegisters}
+use Rattle.state.specs.declared.panel.Panel.{Panel}
+use Rattle.state.specs.declared.registers.Registers.{Registers}
+use Rattle.state.specs.State.{validRegisters}
 use Rattle.display.specs.Frame.{frameOf}
 use Rattle.controller.specs.Effect.{withPhase}
 use Rattle.controller.specs.Run.{RanAll, runOf}

@@ -5,8 +5,8 @@ ghost use Rattle.ground.specs.Packing.{rowBytes};
 ghost use Rattle.rehearsal.specs.Rehearsed.{refusedWith, rehearsedAll, rehearseOf, Outright};
 use controller::run::run;
 use display::frame::paint;
-use display::panel::Panel;
-use display::registers::Registers;
+use state::panel::Panel;
+use state::registers::Registers;
 use writer::write::write;
 
 // A number and place, the pairs run, and the registers then.

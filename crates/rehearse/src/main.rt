@@ -3,7 +3,7 @@
 ghost use mathlib.Core.Path.{_≡_};
 ghost use Prim.Native.Nat.{_≤_};
 ghost use lib.ListN.{length};
-use display::registers::Registers;
+use state::registers::Registers;
 use libc::STDIN_FILENO;
 use libc::STDOUT_FILENO;
 use printed::fill::fill_characters;

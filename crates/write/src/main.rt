@@ -2,7 +2,7 @@
 // to standard error its refusal.
 ghost use mathlib.Core.Path.{_≡_};
 ghost use lib.ListN.{length};
-use display::panel::Panel;
+use state::panel::Panel;
 use libc::STDERR_FILENO;
 use libc::STDIN_FILENO;
 use libc::STDOUT_FILENO;

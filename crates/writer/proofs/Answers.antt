@@ -11,8 +11,8 @@ use lib.ListN.{length}
 use lib.Seq.{sets, length-sets}
 use borrow.Author.Tests.{lt-ltb, le-ltb, ltb-false}
 use Rattle.ground.proofs.Tests.{settled}
-use Rattle.display.specs.declared.panel.Panel.{Panel}
-use Rattle.display.specs.State.{validPanel}
+use Rattle.state.specs.declared.panel.Panel.{Panel}
+use Rattle.state.specs.State.{validPanel}
 use Rattle.controller.specs.Run.{logOf}
 use Rattle.book.specs.declared.check.Checked.{Checked}
 use Rattle.book.specs.Operation.{Operation}

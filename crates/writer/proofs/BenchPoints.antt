@@ -8,7 +8,8 @@ use lib.Dec.{leb·zero}
 use lib.Bits.{bitOr, bitAnd}
 use lib.ListN.{length, getD, set, length-set}
 use lib.Seq.{getD-set-same}
-use Rattle.display.specs.Displayed.{glyphRow, attributed, lookOf}
+use Rattle.display.specs.Displayed.{glyphRow}
+use Rattle.state.specs.Attribute.{attributed, lookOf}
 use Rattle.controller.specs.declared.position.Position.the-variants.{At, Nowhere}
 use Rattle.controller.specs.Effect.{pushed}
 use Rattle.controller.specs.Position.{positionOf}

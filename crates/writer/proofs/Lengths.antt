@@ -7,7 +7,7 @@ use native.Mathlib.Omega.{arith}
 use lib.ListN.{length, take, drop, length-append, length-map, length-drop, replicate, length-replicate}
 use lib.Seq.{length-take-le}
 use Rattle.ground.specs.Lists.{zeros}
-use Rattle.display.specs.declared.panel.Panel.{Panel}
+use Rattle.state.specs.declared.panel.Panel.{Panel}
 use Rattle.book.specs.declared.contents.Asked.{Asked}
 use Rattle.book.specs.declared.contents.Asked.the-variants.{Body, Refused}
 use Rattle.book.specs.declared.operation.Placed.{Placed}

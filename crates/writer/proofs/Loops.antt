@@ -6,7 +6,7 @@ use native.Mathlib.Nat.{mul-le-mul-right}
 use native.Mathlib.Omega.{arith}
 use lib.ListN.{length, getD, take, drop, replicate}
 use lib.Seq.{drop-cons}
-use Rattle.display.specs.declared.panel.Panel.{Panel}
+use Rattle.state.specs.declared.panel.Panel.{Panel}
 use Rattle.controller.specs.Access.{Pair}
 use Rattle.writer.specs.Stream.{datum, block, graphicHome, rowBlocks}
 use Rattle.writer.specs.Put.{Put, RoomFor}

@@ -10,7 +10,7 @@ use Rattle.controller.specs.Access.{Pair}
 use Rattle.controller.specs.Run.{logOf}
 use Rattle.controller.proofs.Logs.{log-append, log-length}
 use Rattle.ground.specs.Lists.{zeros}
-use Rattle.display.specs.declared.panel.Panel.{Panel}
+use Rattle.state.specs.declared.panel.Panel.{Panel}
 use Rattle.writer.specs.Stream.{datum, code, pointTo, block, graphicHome, textHome, glyphHome, setUp, opening}
 use Rattle.writer.specs.Put.{Put}
 

@@ -4,15 +4,16 @@ use mathlib.Core.Bool.{Bool, true, false}
 use mathlib.Core.List.{List, [], _∷_}
 use Prim.Native.Nat.{ℕ, _+_, _%_, _^_, _≤_, _<_}
 use lib.ListN.{length, getD}
-use Rattle.display.specs.declared.panel.Panel.{Panel}
-use Rattle.display.specs.declared.registers.Display.{Display}
-use Rattle.display.specs.declared.registers.Combination.the-variants.{And}
-use Rattle.display.specs.declared.registers.Auto.{Auto}
-use Rattle.display.specs.declared.registers.Auto.the-variants.{Off, Write, Read}
-use Rattle.display.specs.declared.registers.Pending.{Pending}
-use Rattle.display.specs.declared.registers.Registers.{Registers}
-use Rattle.display.specs.State.{none, resetRegisters}
-use Rattle.display.specs.Displayed.{glyphRow, attributed, displayedByte}
+use Rattle.state.specs.declared.panel.Panel.{Panel}
+use Rattle.state.specs.declared.registers.Display.{Display}
+use Rattle.state.specs.declared.registers.Combination.the-variants.{And}
+use Rattle.state.specs.declared.registers.Auto.{Auto}
+use Rattle.state.specs.declared.registers.Auto.the-variants.{Off, Write, Read}
+use Rattle.state.specs.declared.registers.Pending.{Pending}
+use Rattle.state.specs.declared.registers.Registers.{Registers}
+use Rattle.state.specs.State.{none, resetRegisters}
+use Rattle.display.specs.Displayed.{glyphRow, displayedByte}
+use Rattle.state.specs.Attribute.{attributed}
 use Rattle.controller.specs.declared.position.Position.the-variants.{At}
 use Rattle.controller.specs.Effect.{statusOf}
 use Rattle.controller.specs.Position.{positionOf}

@@ -5,8 +5,8 @@ use mathlib.Core.List.{List, [], _∷_}
 use Prim.Native.Nat.{ℕ, _+_, _-_, _*_, _≤_}
 use lib.ListN.{length}
 use lib.Seq.{sets}
-use Rattle.display.specs.declared.panel.Panel.{Panel}
-use Rattle.display.specs.State.{validPanel}
+use Rattle.state.specs.declared.panel.Panel.{Panel}
+use Rattle.state.specs.State.{validPanel}
 use Rattle.controller.specs.Access.{Pair}
 use Rattle.controller.specs.Run.{logOf}
 use Rattle.book.specs.Operation.{Operation, bodyCount}

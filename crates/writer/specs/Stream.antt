@@ -4,9 +4,9 @@ use mathlib.Core.Bool.{cond}
 use mathlib.Core.List.{List, [], _∷_, _++_, map}
 use lib.ListN.{replicate}
 use Rattle.ground.specs.Lists.{zeros}
-use Rattle.display.specs.declared.panel.Panel.{Panel}
-use Rattle.display.specs.declared.registers.Combination.{Combination}
-use Rattle.display.specs.declared.registers.Combination.the-variants.{Or, Exor, And, Attribute}
+use Rattle.state.specs.declared.panel.Panel.{Panel}
+use Rattle.state.specs.declared.registers.Combination.{Combination}
+use Rattle.state.specs.declared.registers.Combination.the-variants.{Or, Exor, And, Attribute}
 pub use Rattle.controller.specs.Access.{Pair, datum, code}
 use Rattle.book.specs.Operation.{Operation, text, rectangle, dot, glyph, cursor, combine, bodyCount, dotByte, dotBit}
 

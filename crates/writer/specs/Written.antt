@@ -5,8 +5,8 @@ use mathlib.Core.List.{List}
 use lib.Dec.{ltb}
 use lib.ListN.{length}
 use lib.Seq.{sets}
-use Rattle.display.specs.declared.panel.Panel.{Panel}
-use Rattle.display.specs.State.{validPanel}
+use Rattle.state.specs.declared.panel.Panel.{Panel}
+use Rattle.state.specs.State.{validPanel}
 use Rattle.controller.specs.Run.{logOf}
 use Rattle.book.specs.Screen.{Screen, screen, refused, screenOf}
 use Rattle.writer.specs.declared.written.Written.{Written}

@@ -2,7 +2,7 @@
 ghost use mathlib.Core.Path.{_≡_};
 ghost use mathlib.Core.Bool.{true};
 ghost use Prim.Native.Nat.{_+_, _*_};
-ghost use Rattle.display.specs.State.{validPanel};
+ghost use Rattle.state.specs.State.{validPanel};
 ghost use Rattle.writer.specs.Stream.{setUp, opening};
 ghost use Rattle.writer.specs.Put.{Put, RoomFor, planePairs};
 use super::homes::Homes;
@@ -10,7 +10,7 @@ use super::put::put_code;
 use super::put::put_run;
 use super::put::put_two;
 use super::put::put_word;
-use display::panel::Panel;
+use state::panel::Panel;
 
 // Text home and area, graphic home and area.
 fn put_planes(room: &mut [u8], at: usize, columns: u8) -> usize

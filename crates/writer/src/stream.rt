@@ -4,7 +4,7 @@ ghost use mathlib.Core.Bool.{cond, true};
 ghost use mathlib.Core.List.{[], _∷_};
 ghost use Prim.Native.Nat.{_+_, _-_, _*_, _≤_};
 ghost use lib.ListN.{take, drop};
-ghost use Rattle.display.specs.State.{validPanel};
+ghost use Rattle.state.specs.State.{validPanel};
 ghost use Rattle.book.specs.Operation.{dotBit, operationOf, text, dot};
 ghost use Rattle.book.specs.Pairs.{pairsOf};
 ghost use Rattle.book.specs.Range.{InRange, TextRange, RectangleRange, DotRange, GlyphRange};
@@ -20,8 +20,8 @@ use super::put::put_word;
 use book::operation::Found;
 use book::operation::Placed;
 use book::operation::read;
-use display::panel::Panel;
-use display::registers::Combination;
+use state::panel::Panel;
+use state::registers::Combination;
 
 // Operation 1: a text's codes from its cell on.
 fn put_text(

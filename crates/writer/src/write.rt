@@ -5,7 +5,7 @@ use super::opening::put_opening;
 use super::stream::put_body;
 use super::written::Written;
 use book::check::check;
-use display::panel::Panel;
+use state::panel::Panel;
 
 // The stream of a screen, unless the panel, the book, the screen or the room is refused.
 pub fn write(panel: Panel, book: &[u8], number: usize, room: &mut [u8]) -> Written

@@ -1,5 +1,5 @@
 -- `attribute_shows` meets its contract, by the look that the table has.
-use Rattle.display.specs.Displayed.{attributed}
+use Rattle.state.specs.Attribute.{attributed}
 use borrow.Author.Needs.{needs}
 use Rattle.display.proofs.cell.attribute_shows.Statement.{statement}
 use Rattle.display.proofs.cell.attribute_shows.Tie as tie

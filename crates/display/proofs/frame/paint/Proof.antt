@@ -2,7 +2,8 @@
 use native.Mathlib.Omega.{arith}
 use native.Mathlib.Nat.{mul-le-mul, lt-of-le-of-lt}
 use lib.Dec.{lit<}
-use Rattle.display.proofs.Doors.{past, narrow, painting-0, painting-1, painting-2, painting-drawable, painting-length}
+use Rattle.state.proofs.Valid.{past, narrow}
+use Rattle.display.proofs.Doors.{painting-0, painting-1, painting-2, painting-drawable, painting-length}
 use Rattle.display.proofs.Dots.{few-bytes}
 use borrow.Author.Needs.{needs}
 use Rattle.display.proofs.frame.paint.Statement.{statement}

@@ -2,7 +2,7 @@
 use Prim.Native.Nat.{_-_}
 use Rattle.picture.proofs.Places.{graphic-few, row-place}
 use Rattle.picture.proofs.Storing.{Filling, filling, filling-on, filling-over}
-use Rattle.display.proofs.Doors.{panelled}
+use Rattle.state.proofs.Valid.{panelled}
 use native.Mathlib.Omega.{arith}
 use Rattle.picture.proofs.apply.lay_rectangle.Statement.{statement}
 use Rattle.picture.proofs.apply.lay_rectangle.Tie as tie

@@ -1,5 +1,5 @@
 -- `cell` meets its contract: the cursor over both layers.
-use Rattle.display.proofs.Doors.{panelled}
+use Rattle.state.proofs.Valid.{panelled}
 use Rattle.picture.proofs.Cells.{cell-cursor, cell-shown}
 use borrow.Author.Needs.{needs}
 use Rattle.picture.proofs.cell.cell.Statement.{statement}

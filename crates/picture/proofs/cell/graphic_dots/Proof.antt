@@ -1,5 +1,5 @@
 -- `graphic_dots` meets its contract: the graphic byte, masked.
-use Rattle.display.proofs.Doors.{panelled}
+use Rattle.state.proofs.Valid.{panelled}
 use Rattle.picture.specs.Layers.{graphicDots}
 use Rattle.picture.proofs.Places.{graphic-few, graphic-place}
 use native.Mathlib.Omega.{arith}

@@ -1,5 +1,5 @@
 -- `text_dots` meets its contract: the code of the cell, its glyph row, masked.
-use Rattle.display.proofs.Doors.{panelled}
+use Rattle.state.proofs.Valid.{panelled}
 use Rattle.picture.proofs.Places.{cells-few, code-place}
 use Rattle.picture.proofs.Cells.{text-dots}
 use borrow.Author.Needs.{needs}

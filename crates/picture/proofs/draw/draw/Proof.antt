@@ -1,7 +1,7 @@
 -- `draw` meets its contract: the tests at the door in order, the screen checked, then its picture and its dots.
 use native.Mathlib.Nat.{mul-le-mul, lt-of-le-of-lt}
 use lib.Dec.{lit<}
-use Rattle.display.proofs.Doors.{panelled, narrow}
+use Rattle.state.proofs.Valid.{panelled, narrow}
 use Rattle.picture.proofs.Places.{cells-few, graphic-few, bytes-few}
 use Rattle.picture.proofs.Answers.{draw-1, past-valid, draw-2, lent-frame, lent-paintable, draw-refused, body-sound, drawn-paintable, draw-0}
 use borrow.Author.Needs.{needs}

@@ -4,7 +4,7 @@ use Prim.Native.Nat.{_-_, _≤_}
 use lib.ListN.{length}
 use lib.Seq.{length-take-le}
 use Rattle.ground.proofs.Filling.{Filled, none-yet, as-long, one-more}
-use Rattle.display.proofs.Doors.{panelled}
+use Rattle.state.proofs.Valid.{panelled}
 use Rattle.picture.specs.Picture.{pictureCell}
 use Rattle.picture.specs.Ready.{pictureWith}
 use Rattle.picture.proofs.Cells.{gathered}

@@ -5,7 +5,7 @@ use Rattle.ground.specs.Packing.{rowFrom, frameFrom}
 use Rattle.ground.proofs.Packing.{row-length}
 use Rattle.ground.proofs.Rows.{Rowed, started, stretch, stretch-length, back, whole}
 use Rattle.ground.proofs.Rows as rows
-use Rattle.display.proofs.Doors.{panelled}
+use Rattle.state.proofs.Valid.{panelled}
 use Rattle.picture.specs.Picture.{pictureCell, pictureFrame}
 use Rattle.picture.specs.Ready.{pictureWith}
 use native.Mathlib.Omega.{arith}

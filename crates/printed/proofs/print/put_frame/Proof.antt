@@ -1,8 +1,8 @@
 -- `put_frame` meets its contract: past the doors the painting is the frame.
 use mathlib.Core.Path.{ap, _∙_}
 use Rattle.ground.proofs.Tests.{both-left}
-use Rattle.display.specs.State.{validPanel}
-use Rattle.display.proofs.Doors.{panelled}
+use Rattle.state.specs.State.{validPanel}
+use Rattle.state.proofs.Valid.{panelled}
 use Rattle.printed.specs.Printed.{frameLines}
 use Rattle.printed.proofs.Puts.{put-same}
 use Rattle.printed.proofs.Prints.{drawn, dots-few}

@@ -1,6 +1,6 @@
 -- `frame_bytes` meets its contract.
 use mathlib.Core.Path.{sym, _∙_}
-use Rattle.display.proofs.Doors.{panelled}
+use Rattle.state.proofs.Valid.{panelled}
 use Rattle.printed.proofs.Prints.{dots-few}
 use Rattle.printed.proofs.Screens.{frame-bytes-valid, frame-bytes-invalid}
 use borrow.Author.Needs.{needs}

@@ -1,6 +1,6 @@
 -- `is_framed` meets its contract.
 use mathlib.Core.Path.{sym, _∙_}
-use Rattle.display.proofs.Doors.{panelled}
+use Rattle.state.proofs.Valid.{panelled}
 use Rattle.printed.proofs.Prints.{dots-few}
 use Rattle.printed.proofs.Screens.{framed-refused, framed-invalid, framed-sized}
 use borrow.Author.Needs.{needs}

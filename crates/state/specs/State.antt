@@ -1,7 +1,7 @@
 -- 01, Panel and memory: valid panels, valid states, the reset state.
 use mathlib.Core.Bool.{Bool, true, false, _&&_, _||_}
 use lib.Dec.{ltb, leb, eqb}
-use Rattle.display.specs.Types.{Panel, Plane, Or, Display, Off, Pending, Bus, Registers}
+use Rattle.state.specs.Types.{Panel, Plane, Or, Display, Off, Pending, Bus, Registers}
 
 -- C 1 to 80, L 1 to 16, w 6 or 8
 abbrev pub validPanel : Panel → Bool

@@ -1,7 +1,7 @@
 -- `combine` meets its contract, by its cases.
 use borrow.Author.Needs.{needs}
-use Rattle.display.proofs.combination.combine.Statement.{statement}
-use Rattle.display.proofs.combination.combine.Tie as tie
+use Rattle.state.proofs.combination.combine.Statement.{statement}
+use Rattle.state.proofs.combination.combine.Tie as tie
 
 enum-told : tie.Need-enum-told
 enum-told c = search needs

@@ -3,10 +3,10 @@ use Prim.Native.Nat.{_%_}
 use native.Mathlib.Omega.{arith}
 use Rattle.ground.specs.Lists.{build}
 use Rattle.ground.proofs.Lists.{build-at}
-use Rattle.display.specs.Displayed.{lookOf}
+use Rattle.state.specs.Attribute.{lookOf}
 use borrow.Author.Needs.{needs}
-use Rattle.display.proofs.attribute.look_at.Statement.{statement}
-use Rattle.display.proofs.attribute.look_at.Tie as tie
+use Rattle.state.proofs.attribute.look_at.Statement.{statement}
+use Rattle.state.proofs.attribute.look_at.Tie as tie
 
 cast-code : tie.Need-cast-code
 cast-code c = search needs

@@ -1,7 +1,7 @@
 // The attribute codes.
 ghost use mathlib.Core.Path.{_≡_};
 ghost use Prim.Native.Nat.{_%_};
-ghost use Rattle.display.specs.Displayed.{lookOf};
+ghost use Rattle.state.specs.Attribute.{lookOf};
 
 // How a glyph row is shown.
 pub enum Show {

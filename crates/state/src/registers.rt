@@ -1,7 +1,7 @@
 // The registers, in two groups: what decides the picture, and what decides how the next access is taken.
 ghost use mathlib.Core.Path.{_≡_};
 ghost use mathlib.Core.Bool.{true};
-ghost use Rattle.display.specs.State.{validDisplay, validBus, validRegisters, resetRegisters};
+ghost use Rattle.state.specs.State.{validDisplay, validBus, validRegisters, resetRegisters};
 
 // The home and the area of text or of graphic.
 pub struct Plane {

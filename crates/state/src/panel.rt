@@ -1,6 +1,6 @@
 // The panel.
 ghost use mathlib.Core.Path.{_≡_};
-ghost use Rattle.display.specs.State.{validPanel};
+ghost use Rattle.state.specs.State.{validPanel};
 
 // C columns, L character lines, cells of w dots.
 pub struct Panel {

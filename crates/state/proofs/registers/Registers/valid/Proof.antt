@@ -2,8 +2,8 @@
 use borrow.Author.Needs.{needs}
 use mathlib.Core.Path.{ap₂}
 use mathlib.Core.Bool.{_&&_}
-use Rattle.display.proofs.registers.Registers.valid.Statement.{statement}
-use Rattle.display.proofs.registers.Registers.valid.Tie as tie
+use Rattle.state.proofs.registers.Registers.valid.Statement.{statement}
+use Rattle.state.proofs.registers.Registers.valid.Tie as tie
 
 valid-requires : tie.Need-valid-requires
 valid-requires c κs = search needs

@@ -1,6 +1,6 @@
 // The combination of text and graphic.
 ghost use mathlib.Core.Path.{_≡_};
-ghost use Rattle.display.specs.Displayed.{isAttribute, combined};
+ghost use Rattle.state.specs.Combination.{isAttribute, combined};
 use super::registers::Combination;
 
 // Whether it is attribute mode.

@@ -1,0 +1,24 @@
+-- 01, A displayed byte: the table of the sixteen attribute codes, and what it does to a glyph row.
+use Prim.Native.Nat.{ℕ, _-_, _%_, _^_}
+use mathlib.Core.Bool.{Bool, cond, not, _&&_, _||_}
+use lib.Dec.{eqb}
+use Rattle.state.specs.Types.{Show, Normal, Reverse, Inhibit, Look}
+
+-- the table: 0 normal, 5 reverse, 3 inhibit; 8, 13, 11 the same with blink; the other ten normal, steady (H)
+unfoldable pub lookOf : ℕ → Look
+lookOf n =
+    record {
+      shown = cond (eqb n 5 || eqb n 13) Reverse (cond (eqb n 3 || eqb n 11) Inhibit Normal);
+      blinks = eqb n 8 || eqb n 13 || eqb n 11;
+    }
+
+-- normal; reverse, w bits complemented; inhibit, 0
+abbrev pub shownAs : Show → ℕ → ℕ → ℕ
+shownAs Normal w n = n
+shownAs Reverse w n = 2 ^ w - 1 - n
+shownAs Inhibit w n = 0
+
+-- w bits under an attribute byte, whose low four bits are its code; blink shows 0 in phase off (H)
+unfoldable pub attributed : ℕ → Bool → ℕ → ℕ → ℕ
+attributed w normal attribute n =
+    cond (lookOf (attribute % 16) .blinks && not normal) 0 (shownAs (lookOf (attribute % 16) .shown) w n)

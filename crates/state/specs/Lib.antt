@@ -1,0 +1,4 @@
+pub mod Types
+pub mod State
+pub mod Attribute
+pub mod Combination
