@@ -16,7 +16,7 @@ use Rattle.book.specs.Operation.{Operation, pairsFor, bodyCount, operati
 use Rattle.book.specs.Pairs.{pairsOf}
 use Rattle.book.specs.Range.{FoundOperation}
 use Rattle.book.specs.Screen.{Screen, screen, refused, withOperation, operationsFrom}
-use Rattle.book.specs.Body.{Inside}
+use Rattle.contents.specs.Inside.{Inside}
 use Rattle.book.specs.Checked.{refusedWith, countedOf}
 use Rattle.book.proofs.Finding.{found-operation, pairs-placed, pairs-few}
 use Rattle.book.proofs.Walking.{walk-on, walk-end, walk-faulty, walk-all}

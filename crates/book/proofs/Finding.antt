@@ -19,11 +19,11 @@ use Rattle.book.specs.declared.operation.Placed.{Placed}
 use Rattle.book.specs.declared.operation.Placed.the-variants.{Text, Rectangle, Dot, Glyph, Cursor, Combine}
 use Rattle.book.specs.declared.operation.Found.{Found}
 use Rattle.book.specs.declared.operation.Found.the-variants.{Operation as Found-Operation, End, Faulty}
-use Rattle.book.specs.Contents.{wordAt}
+use Rattle.contents.specs.Contents.{wordAt}
 use Rattle.book.specs.Operation.{pairsFor, operationOf, sized, readText, readRectangle, readDot, readGlyph, readCursor, combinationOf, readCombine, foundHere, foundAt}
 use Rattle.book.specs.Pairs.{pairsOf}
 use Rattle.book.specs.Range.{InRange, Stands, ByteSized, FoundOperation}
-use Rattle.book.proofs.Conjuncts.{three, four, five}
+use Rattle.ground.proofs.Conjuncts.{three, four, five}
 
 not-end : {o : Placed} {next : ℕ} → End ≡ Found-Operation o next → ⊥
 not-end h = let z : _≡_ {A = ℕ} 0 1 = cc in omega arith

@@ -1,8 +1,5 @@
-pub mod Asking
-pub mod Conjuncts
 pub mod Counting
 pub mod Finding
-pub mod Judging
 pub mod Products
 pub mod Readings
 pub mod Verdicts

@@ -16,7 +16,7 @@ use Rattle.book.specs.declared.operation.Placed.{Placed}
 use Rattle.book.specs.declared.operation.Placed.the-variants.{Text, Rectangle, Dot, Glyph, Cursor, Combine}
 use Rattle.book.specs.declared.operation.Found.{Found}
 use Rattle.book.specs.declared.operation.Found.the-variants.{Operation as Found-Operation, Faulty}
-use Rattle.book.specs.Contents.{wordAt}
+use Rattle.contents.specs.Contents.{wordAt}
 use Rattle.book.specs.Operation.{sized, readText, readRectangle, readDot, readGlyph, readCursor, combinationOf, readCombine}
 
 -- what the code tests for a whole operation

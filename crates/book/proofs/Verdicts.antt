@@ -10,13 +10,14 @@ use Rattle.state.specs.declared.panel.Panel.{Panel}
 use Rattle.state.specs.State.{validPanel}
 use Rattle.state.proofs.Valid.{panelled}
 use Rattle.book.specs.declared.check.Checked.{Checked}
-use Rattle.book.specs.declared.contents.Asked.{Asked}
-use Rattle.book.specs.declared.contents.Asked.the-variants.{Body as Asked-Body, Refused}
+use Rattle.contents.specs.declared.ask.Asked.{Asked}
+use Rattle.contents.specs.declared.ask.Asked.the-variants.{Body as Asked-Body, Refused}
 use Rattle.book.specs.Operation.{Operation, bodyCount}
-use Rattle.book.specs.Body.{Inside}
-use Rattle.book.specs.Screen.{Screen, screen, refused, operationsFrom, askedOf, screenIn, screenOf}
+use Rattle.contents.specs.Inside.{Inside}
+use Rattle.book.specs.Screen.{Screen, screen, refused, operationsFrom, screenIn, screenOf}
+use Rattle.contents.specs.Asked.{askedOf}
 use Rattle.book.specs.Checked.{refusedWith, countedOf, checkedIn, checkedOf}
-use Rattle.book.proofs.Asking.{asked-inside, asked-number}
+use Rattle.contents.proofs.Asking.{asked-inside, asked-number}
 use Rattle.book.proofs.Walking.{walk-number}
 use Rattle.book.proofs.Counting.{body-few}
 

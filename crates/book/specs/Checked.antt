@@ -5,10 +5,11 @@ use mathlib.Core.List.{List}
 use Rattle.state.specs.declared.panel.Panel.{Panel}
 use Rattle.state.specs.State.{validPanel}
 use Rattle.book.specs.declared.check.Checked.{Checked}
-use Rattle.book.specs.declared.contents.Asked.{Asked}
-use Rattle.book.specs.declared.contents.Asked.the-variants.{Body, Refused}
+use Rattle.contents.specs.declared.ask.Asked.{Asked}
+use Rattle.contents.specs.declared.ask.Asked.the-variants.{Body, Refused}
 use Rattle.book.specs.Operation.{bodyCount}
-use Rattle.book.specs.Screen.{Screen, screen, refused, operationsFrom, askedOf}
+use Rattle.book.specs.Screen.{Screen, screen, refused, operationsFrom}
+use Rattle.contents.specs.Asked.{askedOf}
 
 abbrev pub refusedWith : ℕ → ℕ → Checked
 refusedWith n place = record { number = n; place = place; start = 0; end = 0; pairs = 0 }

@@ -11,7 +11,7 @@ use Rattle.book.specs.declared.operation.Placed.{Placed}
 use Rattle.book.specs.declared.operation.Placed.the-variants.{Text, Rectangle, Dot, Glyph, Cursor, Combine}
 use Rattle.book.specs.declared.operation.Found.{Found}
 use Rattle.book.specs.declared.operation.Found.the-variants.{Operation as Found-Operation, End, Faulty}
-use Rattle.book.specs.Contents.{wordAt}
+use Rattle.contents.specs.Contents.{wordAt}
 
 pub data Operation : Type 0 where
   -- line, column, codes

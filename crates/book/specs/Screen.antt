@@ -2,27 +2,14 @@
 use Prim.Native.Nat.{ℕ, zero, suc, _-_}
 use mathlib.Core.List.{List, [], _∷_}
 use Rattle.state.specs.declared.panel.Panel.{Panel}
-use Rattle.book.specs.declared.contents.Asked.{Asked}
-use Rattle.book.specs.declared.contents.Asked.the-variants.{Body as Asked-Body, Refused}
+use Rattle.contents.specs.Asked.{askedOf}
+use Rattle.contents.specs.declared.ask.Asked.{Asked}
+use Rattle.contents.specs.declared.ask.Asked.the-variants.{Body as Asked-Body, Refused}
 use Rattle.book.specs.declared.operation.Placed.{Placed}
 use Rattle.book.specs.declared.operation.Found.{Found}
 use Rattle.book.specs.declared.operation.Found.the-variants.{Operation as Found-Operation, End, Faulty}
-use Rattle.book.specs.Contents.{Body, Contents, sound, wrong, contentsOf}
+use Rattle.contents.specs.Contents.{Body, Contents, sound, wrong, contentsOf}
 use Rattle.book.specs.Operation.{Operation, operationOf, foundAt}
-
--- 10 screen number n or more
-abbrev pub bodyAt : List Body → ℕ → Asked
-bodyAt [] number = Refused 10 0
-bodyAt (b ∷ bs) zero = Asked-Body (b .start) (b .end)
-bodyAt (b ∷ bs) (suc number) = bodyAt bs number
-
-abbrev pub bodyIn : Contents → ℕ → Asked
-bodyIn (sound bodies) number = bodyAt bodies number
-bodyIn (wrong place) number = Refused 9 place
-
--- 9, then 10, else the body
-unfoldable pub askedOf : List ℕ → ℕ → Asked
-askedOf book number = bodyIn (contentsOf book) number
 
 -- a screen's operations, or a refusal with its place
 pub data Screen : Type 0 where

@@ -1,6 +1,4 @@
-// A book of screens: its contents, and the operations of a screen.
-mod bytes;
+// The operations of a screen, and a whole screen checked.
 pub mod check;
-pub mod contents;
 pub mod operation;
 mod product;

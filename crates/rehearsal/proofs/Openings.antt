@@ -16,10 +16,11 @@ use Rattle.state.specs.State.{validPanel}
 use Rattle.codes.specs.declared.command.Target.the-variants as target
 use Rattle.controller.specs.Access.{Pair, machine, stepOf}
 use Rattle.controller.proofs.Takes.{Takes, takes-both, resting, off-taken, word-taken, mode-taken, show-taken}
-use Rattle.book.specs.declared.contents.Asked.{Asked}
-use Rattle.book.specs.declared.contents.Asked.the-variants.{Body, Refused}
+use Rattle.contents.specs.declared.ask.Asked.{Asked}
+use Rattle.contents.specs.declared.ask.Asked.the-variants.{Body, Refused}
 use Rattle.book.specs.Operation.{Operation}
-use Rattle.book.specs.Screen.{screen, askedOf, screenIn, screenOf}
+use Rattle.book.specs.Screen.{screen, screenIn, screenOf}
+use Rattle.contents.specs.Asked.{askedOf}
 use Rattle.writer.specs.Stream.{block, setUp, opening, bodyPairs, streamOf}
 use Rattle.writer.proofs.Places.{cells-few}
 use Rattle.picture.specs.declared.cursor.Laid.the-variants.{Nowhere}

@@ -8,13 +8,14 @@ use lib.ListN.{length, take, drop, length-append, length-map, length-drop, repli
 use lib.Seq.{length-take-le}
 use Rattle.ground.specs.Lists.{zeros}
 use Rattle.state.specs.declared.panel.Panel.{Panel}
-use Rattle.book.specs.declared.contents.Asked.{Asked}
-use Rattle.book.specs.declared.contents.Asked.the-variants.{Body, Refused}
+use Rattle.contents.specs.declared.ask.Asked.{Asked}
+use Rattle.contents.specs.declared.ask.Asked.the-variants.{Body, Refused}
 use Rattle.book.specs.declared.operation.Placed.{Placed}
 use Rattle.book.specs.declared.operation.Placed.the-variants.{Text, Rectangle, Dot, Glyph, Cursor, Combine}
 use Rattle.book.specs.Operation.{Operation, pairsFor, bodyCount, operationOf}
 use Rattle.book.specs.Range.{InRange}
-use Rattle.book.specs.Screen.{screen, operationsFrom, askedOf, screenIn, screenOf}
+use Rattle.book.specs.Screen.{screen, operationsFrom, screenIn, screenOf}
+use Rattle.contents.specs.Asked.{askedOf}
 use Rattle.book.proofs.Walking.{walk-all}
 use Rattle.writer.specs.Stream.{datum, code, pointTo, block, setUp, opening, rowBlocks, operationPairs, bodyPairs, streamOf, countOf}
 

@@ -1,6 +1,6 @@
 -- `check` meets its contract: the panel, then the contents, then the body.
 use mathlib.Core.Path.{sym, _∙_}
-use Rattle.book.proofs.Asking.{asked-inside}
+use Rattle.contents.proofs.Asking.{asked-inside}
 use Rattle.book.proofs.Verdicts.{checked-1, checked-refused, checked-body}
 use borrow.Author.Needs.{needs}
 use Rattle.book.proofs.check.check.Statement.{statement}

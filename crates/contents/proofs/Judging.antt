@@ -7,10 +7,10 @@ use native.Mathlib.Omega.{arith}
 use lib.Dec.{ltb, eqb}
 use lib.ListN.{length}
 use borrow.Author.Tests.{ltb-false, eqb-true, not-false}
-use Rattle.book.specs.declared.contents.Entries.the-variants.{Sound, Wrong}
-use Rattle.book.specs.Contents.{wordAt, Body, Contents, sound, wrong, withBody, wrongEntry, entriesFrom, firstBody}
-use Rattle.book.specs.Entry.{judged}
-use Rattle.book.proofs.Conjuncts.{neither}
+use Rattle.contents.specs.declared.ask.Entries.the-variants.{Sound, Wrong}
+use Rattle.contents.specs.Contents.{wordAt, Body, Contents, sound, wrong, withBody, wrongEntry, entriesFrom, firstBody}
+use Rattle.contents.specs.Entry.{judged}
+use Rattle.ground.proofs.Conjuncts.{neither}
 
 -- an entry that is not wrong
 pub record Right (book : List ℕ) (at start : ℕ) : Type 0 where

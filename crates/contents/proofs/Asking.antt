@@ -9,16 +9,16 @@ use lib.Dec.{leb, leb·suc-suc}
 use lib.ListN.{length, getD}
 use borrow.Author.Tests.{lt-ltb, le-ltb, leb-true}
 use Rattle.ground.proofs.Tests.{settled}
-use Rattle.book.specs.declared.contents.Asked.{Asked}
-use Rattle.book.specs.declared.contents.Asked.the-variants.{Body as Asked-Body, Refused}
-use Rattle.book.specs.declared.contents.Entries.{Entries}
-use Rattle.book.specs.declared.contents.Entries.the-variants.{Sound, Wrong}
-use Rattle.book.specs.Contents.{wordAt, Body, Contents, sound, wrong, withBody, wrongEntry, entriesFrom, firstBody, contentsOf}
-use Rattle.book.specs.Entry.{judged, entryOf}
-use Rattle.book.specs.Body.{Inside}
-use Rattle.book.specs.Screen.{bodyAt, bodyIn, askedOf}
-use Rattle.book.proofs.Conjuncts.{five}
-use Rattle.book.proofs.Judging.{right}
+use Rattle.contents.specs.declared.ask.Asked.{Asked}
+use Rattle.contents.specs.declared.ask.Asked.the-variants.{Body as Asked-Body, Refused}
+use Rattle.contents.specs.declared.ask.Entries.{Entries}
+use Rattle.contents.specs.declared.ask.Entries.the-variants.{Sound, Wrong}
+use Rattle.contents.specs.Contents.{wordAt, Body, Contents, sound, wrong, withBody, wrongEntry, entriesFrom, firstBody, contentsOf}
+use Rattle.contents.specs.Entry.{judged, entryOf}
+use Rattle.contents.specs.Inside.{Inside}
+use Rattle.contents.specs.Asked.{bodyAt, bodyIn, askedOf}
+use Rattle.ground.proofs.Conjuncts.{five}
+use Rattle.contents.proofs.Judging.{right}
 
 not-sound : (place : ℕ) → Wrong place ≡ Sound → ⊥
 not-sound place h = let z : _≡_ {A = ℕ} 0 1 = cc in omega arith

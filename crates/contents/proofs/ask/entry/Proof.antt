@@ -1,8 +1,8 @@
 -- `entry` meets its contract.
 use borrow.Author.Tests.{lt-ltb, le-ltb}
 use borrow.Author.Needs.{needs}
-use Rattle.book.proofs.contents.entry.Statement.{statement}
-use Rattle.book.proofs.contents.entry.Tie as tie
+use Rattle.contents.proofs.ask.entry.Statement.{statement}
+use Rattle.contents.proofs.ask.entry.Tie as tie
 
 mul-at : tie.Need-mul-at
 mul-at c = search needs

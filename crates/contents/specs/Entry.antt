@@ -3,11 +3,11 @@ use Prim.Native.Nat.{ℕ, _+_, _*_}
 use mathlib.Core.Bool.{cond}
 use mathlib.Core.List.{List}
 use lib.Dec.{ltb}
-use Rattle.book.specs.declared.contents.Asked.{Asked}
-use Rattle.book.specs.declared.contents.Asked.the-variants.{Body, Refused}
-use Rattle.book.specs.declared.contents.Entries.{Entries}
-use Rattle.book.specs.declared.contents.Entries.the-variants.{Sound, Wrong}
-use Rattle.book.specs.Contents.{Contents, sound, wrong, wordAt}
+use Rattle.contents.specs.declared.ask.Asked.{Asked}
+use Rattle.contents.specs.declared.ask.Asked.the-variants.{Body, Refused}
+use Rattle.contents.specs.declared.ask.Entries.{Entries}
+use Rattle.contents.specs.declared.ask.Entries.the-variants.{Sound, Wrong}
+use Rattle.contents.specs.Contents.{Contents, sound, wrong, wordAt}
 
 abbrev pub judged : Contents → Entries
 judged (sound bodies) = Sound

@@ -2,9 +2,9 @@
 ghost use mathlib.Core.Path.{_≡_};
 ghost use Prim.Native.Nat.{_+_, _≤_};
 ghost use lib.ListN.{length};
-ghost use Rattle.book.specs.Contents.{wrongEntry, firstBody, entriesFrom};
-ghost use Rattle.book.specs.Entry.{judged, entryOf};
-ghost use Rattle.book.specs.Screen.{askedOf};
+ghost use Rattle.contents.specs.Contents.{wrongEntry, firstBody, entriesFrom};
+ghost use Rattle.contents.specs.Entry.{judged, entryOf};
+ghost use Rattle.contents.specs.Asked.{askedOf};
 use super::bytes::byte_at;
 use super::bytes::word_at;
 

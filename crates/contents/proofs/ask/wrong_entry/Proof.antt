@@ -1,8 +1,8 @@
 -- `wrong_entry` meets its contract.
 
 use borrow.Author.Needs.{needs}
-use Rattle.book.proofs.contents.wrong_entry.Statement.{statement}
-use Rattle.book.proofs.contents.wrong_entry.Tie as tie
+use Rattle.contents.proofs.ask.wrong_entry.Statement.{statement}
+use Rattle.contents.proofs.ask.wrong_entry.Tie as tie
 
 word-at-requires : tie.Need-word-at-requires
 word-at-requires c κs = search needs

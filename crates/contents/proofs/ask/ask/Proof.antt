@@ -1,8 +1,8 @@
 -- `ask` meets its contract: the contents opened, the entries judged, then one of them read.
-use Rattle.book.proofs.Asking.{opened, asked-shut, asked-wrong, asked-sound}
+use Rattle.contents.proofs.Asking.{opened, asked-shut, asked-wrong, asked-sound}
 use borrow.Author.Needs.{needs}
-use Rattle.book.proofs.contents.ask.Statement.{statement}
-use Rattle.book.proofs.contents.ask.Tie as tie
+use Rattle.contents.proofs.ask.ask.Statement.{statement}
+use Rattle.contents.proofs.ask.ask.Tie as tie
 
 byte-at-requires : tie.Need-byte-at-requires
 byte-at-requires c κs = search needs

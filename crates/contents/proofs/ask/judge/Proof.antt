@@ -1,8 +1,8 @@
 -- `judge` meets its contract: what is left of the entries is judged as the whole.
 use native.Mathlib.Omega.{arith}
-use Rattle.book.proofs.Judging.{Judging, judging-starts, judging-wrong, judging-on, judging-ends}
-use Rattle.book.proofs.contents.judge.Statement.{statement}
-use Rattle.book.proofs.contents.judge.Tie as tie
+use Rattle.contents.proofs.Judging.{Judging, judging-starts, judging-wrong, judging-on, judging-ends}
+use Rattle.contents.proofs.ask.judge.Statement.{statement}
+use Rattle.contents.proofs.ask.judge.Tie as tie
 
 abbrev Inv-loop : tie.InvT-loop
 Inv-loop book n left₀ at₀ start₀ left at start = Judging book n left at start

@@ -1,0 +1,4 @@
+pub mod Contents
+pub mod Entry
+pub mod Inside
+pub mod Asked
