@@ -12,7 +12,8 @@ use Rattle.ground.proofs.Tests.{cond-has, both}
 use Rattle.state.specs.State.{validPanel}
 use Rattle.display.specs.Frame.{lentLengths}
 use Rattle.controller.specs.Types.{Panel, Registers, Turned, Ran}
-use Rattle.controller.specs.Access.{Pair, Machine, machine, Step, done, answered, refused, stepOf}
+use Rattle.controller.specs.Access.{Pair, Step, done, answered, refused, stepOf}
+use Rattle.effects.specs.Machine.{Machine, machine}
 use Rattle.controller.specs.Run.{pairsOf, Standing, Turn, went, halted, turnOf, End, whole, short, Run, afterTurn, runFrom, RanAll, ranAll, ranOf}
 use Rattle.controller.specs.Ready.{Runs, standing, TurnedAll, turnedAll, turnedOf}
 use Rattle.controller.proofs.Laws.{Sounds, sounds-valid, Leaves, step-sound}

@@ -1,10 +1,7 @@
 pub mod Acts
 pub mod Goings
 pub mod Laws
-pub mod Lines
 pub mod Logs
-pub mod Positions
-pub mod Pushes
 pub mod Readied
 pub mod Runs
 pub mod Splits

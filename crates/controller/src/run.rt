@@ -2,7 +2,8 @@
 ghost use mathlib.Core.Path.{_≡_};
 ghost use Prim.Native.Nat.{_*_, _≤_};
 ghost use lib.ListN.{length, take};
-ghost use Rattle.controller.specs.Access.{machine, stepOf};
+ghost use Rattle.effects.specs.Machine.{machine};
+ghost use Rattle.controller.specs.Access.{stepOf};
 ghost use Rattle.controller.specs.Run.{turnOf, runFrom, ranOf, ranAll, runOf, pairsOf};
 ghost use Rattle.controller.specs.Ready.{Runs, standing, turnedAll, turnedOf, takenOf, answeredAll, answeredOf};
 use crate::access::Acted;

@@ -3,8 +3,9 @@ use borrow.Author.Tests.{ne-eqb}
 use mathlib.Core.Path.{ap, refl, _∙_}
 use Rattle.codes.specs.Command.{decodeOf}
 use Rattle.controller.specs.Types.{Acted}
-use Rattle.controller.specs.Effect.{statusOf}
-use Rattle.controller.specs.Access.{machine, answered, commandOf, writeOf, readOf, replied}
+use Rattle.effects.specs.Effect.{statusOf}
+use Rattle.effects.specs.Machine.{machine}
+use Rattle.controller.specs.Access.{answered, commandOf, writeOf, readOf, replied}
 use Rattle.controller.proofs.Readied.{ready-runs, runs-lengths}
 use Rattle.controller.proofs.Turns.{answers, read-answering, write-acting, command-acting, turn-taken, turn-answered}
 use borrow.Author.Needs.{needs}
