@@ -13,7 +13,8 @@ use Rattle.codes.specs.Command.{neededOf, isOff, endsAuto, decodeOf}
 use Rattle.state.specs.State.{validPanel, validRegisters}
 use Rattle.display.specs.Frame.{lentLengths, frameFits, Painted, paintOf}
 use Rattle.controller.specs.Types.{Auto, Off, Write, Read, Decoded, Defined, Undefined}
-use Rattle.controller.specs.Access.{Pair, Machine, machine, Step, done, answered, refused, commandOf, writeOf, readOf, stepOf, Accessed, actedOf, accessOf}
+use Rattle.controller.specs.Access.{Pair, Step, done, answered, refused, commandOf, writeOf, readOf, stepOf, Accessed, actedOf, accessOf}
+use Rattle.effects.specs.Machine.{Machine, machine}
 use Rattle.controller.specs.Run.{pairsOf, Standing, Turn, went, halted, turnOf, short, afterTurn, runFrom, endNumber, RanAll, runOf}
 use Rattle.boundary.specs.Types.{Panel, Registers, Entry, State, Refused}
 use Rattle.boundary.specs.Image.{bytesOf}

@@ -13,46 +13,12 @@ use Rattle.display.specs.Displayed.{addressOf, displayedByte}
 use Rattle.state.specs.Combination.{isAttribute}
 use Rattle.display.specs.Frame.{lentLengths}
 use Rattle.controller.specs.Types.{Panel, Plane, Registers, Bus, Command, Position, At, Nowhere, Acted}
-use Rattle.controller.specs.Effect.{withBus, withPending, withLatch, withError}
-use Rattle.controller.specs.Position.{positionOf}
-use Rattle.controller.specs.Access.{Pair, Machine, machine, Step, done, answered, refused, peekOf, copiedOf, copyOf, effectOf, dropped, obeyOf, stepOf, Accessed, replied, accessed, actedOf, accessOf}
-use Rattle.controller.proofs.Positions.{Within, position-within}
-
--- a position found is on the panel, where the pointer is
-pub found-within : (p : Panel) (q : Plane) (pointer : ℕ) {x : Position} {r c : ℕ} → x ≡ positionOf p q pointer → x ≡ At r c
-    → (r < 8 * p .lines) × (c < p .columns) × (pointer ≡ addressOf q r c)
-found-within p q pointer e f = subst (Within p q pointer) (sym e ∙ f) (position-within p q pointer)
-
-module _ (p : Panel) (rom : List ℕ) (s : Registers) (mem : List ℕ) {x : Position} (e : x ≡ positionOf p (s .display .graphic) (s .bus .pointer)) where
-  pub peek-found : {r c v : ℕ} → x ≡ At r c → v ≡ displayedByte p (s .display) mem rom r c
-      → withError (withLatch (s .bus) v) false ≡ peekOf p rom (machine s mem) (positionOf p (s .display .graphic) (s .bus .pointer))
-  peek-found f h = (λ i. withError (withLatch (s .bus) (h i)) false) ∙ sym (ap (peekOf p rom (machine s mem)) (sym e ∙ f))
-
-  pub peek-nowhere : x ≡ Nowhere → withError (s .bus) true ≡ peekOf p rom (machine s mem) (positionOf p (s .display .graphic) (s .bus .pointer))
-  peek-nowhere f = sym (ap (peekOf p rom (machine s mem)) (sym e ∙ f))
-
-  pub copy-nowhere : {q : Registers} → x ≡ Nowhere → q ≡ withBus s (withError (s .bus) true)
-      → machine q mem ≡ copyOf p rom (machine s mem) (positionOf p (s .display .graphic) (s .bus .pointer))
-  copy-nowhere f h = ap (λ (q : Registers). machine q mem) h ∙ sym (ap (copyOf p rom (machine s mem)) (sym e ∙ f))
-
-  module _ {r c : ℕ} (f : x ≡ At r c) {b : Bool} (i : b ≡ isAttribute (s .display .combination)) where
-    copied-by : (v : Bool) → b ≡ v
-        → cond v (machine (withBus s (withError (s .bus) true)) mem) (machine (withBus s (withError (s .bus) false)) (copiedOf p rom (machine s mem) r c))
-        ≡ copyOf p rom (machine s mem) (positionOf p (s .display .graphic) (s .bus .pointer))
-    copied-by v g =
-        ap (λ (t : Bool). cond t (machine (withBus s (withError (s .bus) true)) mem) (machine (withBus s (withError (s .bus) false)) (copiedOf p rom (machine s mem) r c))) (sym g ∙ i)
-        ∙ sym (ap (copyOf p rom (machine s mem)) (sym e ∙ f))
-
-    pub copy-attribute : {q : Registers} → b ≡ true → q ≡ withBus s (withError (s .bus) true)
-        → machine q mem ≡ copyOf p rom (machine s mem) (positionOf p (s .display .graphic) (s .bus .pointer))
-    copy-attribute g h = ap (λ (q : Registers). machine q mem) h ∙ copied-by true g
-
-    pub copy-found : {q : Registers} {m line : List ℕ} → b ≡ false → q ≡ withBus s (withError (s .bus) false)
-        → line ≡ build (p .columns - c) (λ j. displayedByte p (s .display) mem rom r (c + j)) → m ≡ stored mem (s .bus .pointer) line
-        → machine q m ≡ copyOf p rom (machine s mem) (positionOf p (s .display .graphic) (s .bus .pointer))
-    unfolding copiedOf
-    copy-found g h l k =
-        (λ t. machine (h t) ((k ∙ (λ u. stored mem (found-within p (s .display .graphic) (s .bus .pointer) e f .2 u) (l u))) t)) ∙ copied-by false g
+use Rattle.effects.specs.Effect.{withBus, withPending, withLatch, withError}
+use Rattle.sight.specs.Position.{positionOf}
+use Rattle.controller.specs.Access.{Pair, Step, done, answered, refused, effectOf, dropped, obeyOf, stepOf, Accessed, replied, accessed, actedOf, accessOf}
+use Rattle.effects.specs.Machine.{Machine, machine}
+use Rattle.sight.specs.Sight.{peekOf, copiedOf, copyOf}
+use Rattle.sight.proofs.Positions.{Within, position-within}
 
 -- a defined code
 module _ (p : Panel) (rom : List ℕ) (s : Registers) (mem : List ℕ) (k : Command) {a b : Bool} (i : a ≡ endsAuto k) (j : b ≡ isOff (s .bus .auto)) where

@@ -11,8 +11,9 @@ use lib.Seq.{drop-drop}
 use borrow.Author.Tests.{eq-eqb, ne-eqb}
 use Rattle.ground.specs.Lists.{stored}
 use Rattle.controller.specs.Types.{Panel, Auto, Off, Write, Read, Registers}
-use Rattle.controller.specs.Effect.{withBus, withPointer, isWrite}
-use Rattle.controller.specs.Access.{Pair, Machine, machine, writeOf, stepOf}
+use Rattle.effects.specs.Effect.{withBus, withPointer, isWrite}
+use Rattle.controller.specs.Access.{Pair, writeOf, stepOf}
+use Rattle.effects.specs.Machine.{Machine, machine}
 use Rattle.controller.specs.Run.{pairsOf, Run, turnOf, afterTurn, runFrom, short}
 use Rattle.controller.specs.Ready.{standing, pairsFrom, dataOf, Blocked}
 

@@ -15,8 +15,9 @@ use Rattle.state.specs.State.{validPanel, none}
 use Rattle.codes.specs.Command.{isOff}
 use Rattle.display.specs.Frame.{lentLengths}
 use Rattle.controller.specs.Types.{Panel, Display, Auto, Off, Write, Read, Pending, Bus, Registers, Turned, Ran, Told, Drawn, Up}
-use Rattle.controller.specs.Effect.{withBus, withPointer, withAuto, withLatch, withPending, withPhase, pushed, movedOf, isWrite, isRead, stateOf}
-use Rattle.controller.specs.Access.{Pair, Machine, machine, Step, done, answered, refused, writeOf, readOf, stepOf}
+use Rattle.effects.specs.Effect.{withBus, withPointer, withAuto, withLatch, withPending, withPhase, pushed, movedOf, isWrite, isRead, stateOf}
+use Rattle.controller.specs.Access.{Pair, Step, done, answered, refused, writeOf, readOf, stepOf}
+use Rattle.effects.specs.Machine.{Machine, machine}
 use Rattle.controller.specs.Run.{pairsOf, Standing, Turn, went, halted, turnOf, End, whole, short, Run, afterTurn, runFrom, RanAll, ranAll, ranOf}
 use Rattle.controller.specs.Ready.{Runs, Tells, Draws, Blocked, pairsFrom, dataOf, standing, TurnedAll, turnedAll, turnedOf}
 use Rattle.controller.proofs.Blocks.{pairAt, pairs-here, pairs-behind, write-only, block-run}

@@ -16,9 +16,11 @@ use Rattle.state.specs.State.{validDisplay, validBus, validRegisters, none}
 use Rattle.state.specs.Combination.{isAttribute}
 use Rattle.state.proofs.Valid.{Displaying, displaying, display-valid, Bussing, bussing, bus-valid}
 use Rattle.controller.specs.Types.{Panel, Display, Bus, Pending, Registers, Auto, Off, Write, Read, Target, Command, Set, Mode, Show, Height, Run, Store, Load, Peek, Copy, Bit, Decoded, Defined, Undefined, Position, At, Nowhere}
-use Rattle.controller.specs.Effect.{pushed, setOf, statusOf}
-use Rattle.controller.specs.Position.{positionOf}
-use Rattle.controller.specs.Access.{Pair, Machine, machine, Step, done, answered, refused, copiedOf, copyOf, effectOf, dropped, obeyOf, commandOf, writeOf, readOf, tickOf, stepOf}
+use Rattle.effects.specs.Effect.{pushed, setOf, statusOf}
+use Rattle.sight.specs.Position.{positionOf}
+use Rattle.controller.specs.Access.{Pair, Step, done, answered, refused, effectOf, dropped, obeyOf, commandOf, writeOf, readOf, tickOf, stepOf}
+use Rattle.effects.specs.Machine.{Machine, machine}
+use Rattle.sight.specs.Sight.{copiedOf, copyOf}
 
 -- the commands that leave the display group as it was: pointer, auto, transfer, peek, copy and bit
 abbrev pub keepsDisplay : Command → Bool

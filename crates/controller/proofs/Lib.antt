@@ -2,10 +2,7 @@ pub mod Acts
 pub mod Blocks
 pub mod Goings
 pub mod Laws
-pub mod Lines
 pub mod Logs
-pub mod Positions
-pub mod Pushes
 pub mod Readied
 pub mod Runs
 pub mod Splits

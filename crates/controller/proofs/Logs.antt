@@ -11,7 +11,8 @@ use borrow.Author.Tests.{eq-eqb}
 use Rattle.state.specs.State.{validPanel, validRegisters}
 use Rattle.display.specs.Frame.{lentLengths}
 use Rattle.controller.specs.Types.{Panel, Registers}
-use Rattle.controller.specs.Access.{Pair, Machine, machine, stepOf}
+use Rattle.controller.specs.Access.{Pair, stepOf}
+use Rattle.effects.specs.Machine.{Machine, machine}
 use Rattle.controller.specs.Run.{pairsOf, logOf, Run, runFrom, RanAll, ranAll, ranOf, ranNone, runOf}
 use Rattle.controller.specs.Ready.{standing}
 use Rattle.controller.proofs.Laws.{sounds, sounds-valid}

@@ -13,7 +13,8 @@ use Rattle.ground.proofs.Tests.{settled}
 use Rattle.state.specs.State.{validPanel, validRegisters}
 use Rattle.display.specs.Frame.{lentLengths}
 use Rattle.controller.specs.Types.{Panel, Registers, Ran}
-use Rattle.controller.specs.Access.{Machine, stepOf}
+use Rattle.effects.specs.Machine.{Machine}
+use Rattle.controller.specs.Access.{stepOf}
 use Rattle.controller.specs.Run.{pairsOf, Standing, Run, runFrom, RanAll, ranAll, ranOf, ranNone, runOf}
 use Rattle.controller.specs.Ready.{standing}
 

@@ -12,7 +12,8 @@ use Rattle.ground.proofs.Tests.{both, both-left, both-right}
 use Rattle.state.specs.State.{validPanel, validRegisters}
 use Rattle.display.specs.Frame.{lentLengths}
 use Rattle.controller.specs.Types.{Panel, Registers}
-use Rattle.controller.specs.Access.{Pair, Machine, machine, Step, done, answered, refused, stepOf}
+use Rattle.controller.specs.Access.{Pair, Step, done, answered, refused, stepOf}
+use Rattle.effects.specs.Machine.{Machine, machine}
 use Rattle.controller.specs.Run.{pairsOf, Standing, Turn, went, halted, turnOf, End, whole, short, Run, afterTurn, runFrom, endNumber, endPlace, RanAll, ranAll, ranOf, ranNone, runOf}
 use Rattle.controller.specs.Ready.{standing}
 use Rattle.controller.specs.Split.{continued, secondRun, Split}

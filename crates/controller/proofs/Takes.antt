@@ -13,8 +13,9 @@ use Rattle.state.specs.State.{none}
 use Rattle.codes.specs.Command.{decodeOf}
 use Rattle.controller.specs.Types.{Panel, Shows, Combination, Display, Auto, Off, Write, Bus, Registers, Target, Set, Mode, Show, Height, Run, Bit, Decoded, Defined, Up}
 use Rattle.codes.specs.declared.command.Target.the-variants as target
-use Rattle.controller.specs.Effect.{withMode, withShows, withCursor, movedOf, setOf}
-use Rattle.controller.specs.Access.{Pair, datum, code, Machine, machine, Step, done, answered, refused, commandOf, stepOf}
+use Rattle.effects.specs.Effect.{withMode, withShows, withCursor, movedOf, setOf}
+use Rattle.controller.specs.Access.{Pair, datum, code, Step, done, answered, refused, commandOf, stepOf}
+use Rattle.effects.specs.Machine.{Machine, machine}
 use Rattle.controller.specs.Run.{Standing, turnOf, Run as Running, afterTurn, runFrom, short}
 use Rattle.controller.proofs.Splits.{ended, run-append}
 

@@ -12,8 +12,9 @@ use Rattle.state.specs.State.{none}
 use Rattle.codes.specs.Command.{has, groupOf, decodeOf, neededOf, isOff, endsAuto}
 use Rattle.codes.specs.declared.command.Target.the-variants as target
 use Rattle.controller.specs.Types.{Panel, Shows, Or, Exor, And, Attribute, Combination, Display, Auto, Off, Bus, Command, Set, Mode, Show, Height, Run, Store, Load, Bit, Decoded, Defined, Undefined, Move, Told, Drawn}
-use Rattle.controller.specs.Effect.{withMode, withShows, withCursor, withPointer, withAuto, withLatch, withPending, movedOf}
-use Rattle.controller.specs.Access.{code, machine, Step, done, refused, effectOf, dropped, commandOf, stepOf}
+use Rattle.effects.specs.Effect.{withMode, withShows, withCursor, withPointer, withAuto, withLatch, withPending, movedOf}
+use Rattle.controller.specs.Access.{code, Step, done, refused, effectOf, dropped, commandOf, stepOf}
+use Rattle.effects.specs.Machine.{machine}
 use Rattle.controller.specs.Ready.{Tells, Draws}
 
 either-true : (a : Bool) → (a || true) ≡ true

@@ -11,8 +11,9 @@ use borrow.Author.Tests.{lt-ltb, le-ltb, eqb-true}
 use Rattle.ground.proofs.Tests.{cond-has, either}
 use Rattle.codes.specs.Command.{neededOf, isOff, endsAuto, decodeOf}
 use Rattle.controller.specs.Types.{Panel, Registers, Auto, Off, Write, Read, Command, Decoded, Defined, Undefined, Acted, Turned}
-use Rattle.controller.specs.Effect.{statusOf}
-use Rattle.controller.specs.Access.{Pair, Machine, machine, Step, done, answered, refused, effectOf, dropped, obeyOf, commandOf, writeOf, readOf, tickOf, stepOf, Accessed, replied, accessed, actedOf}
+use Rattle.effects.specs.Effect.{statusOf}
+use Rattle.controller.specs.Access.{Pair, Step, done, answered, refused, effectOf, dropped, obeyOf, commandOf, writeOf, readOf, tickOf, stepOf, Accessed, replied, accessed, actedOf}
+use Rattle.effects.specs.Machine.{Machine, machine}
 use Rattle.controller.specs.Run.{went, halted, turnOf}
 use Rattle.controller.specs.Ready.{standing, turnedAll, turnedOf, takenOf, AnsweredAll, answeredAll, answeredOf}
 

@@ -4,6 +4,8 @@ use mathlib.Core.Bool.{Bool, true, false, cond, not, _&&_, _||_}
 use mathlib.Core.List.{List}
 use lib.Dec.{leb, eqb}
 use lib.ListN.{getD, set}
+use Rattle.effects.specs.Machine.{Machine, machine}
+use Rattle.sight.specs.Sight.{peekOf, copyOf}
 use Rattle.ground.specs.Bytes.{withBit}
 use Rattle.ground.specs.Lists.{build, stored}
 use Rattle.controller.specs.Types.{Panel, Auto, Off, Write, Read, Bus, Registers, Command, Set, Mode, Show, Height, Run, Store, Load, Peek, Copy, Bit, Decoded, Defined, Undefined, Up, Position, At, Nowhere, Acted}
@@ -12,8 +14,8 @@ use Rattle.display.specs.Displayed.{addressOf, displayedByte}
 use Rattle.state.specs.Combination.{isAttribute}
 use Rattle.display.specs.Frame.{lentLengths}
 use Rattle.codes.specs.Command.{decodeOf, neededOf, isOff, endsAuto}
-use Rattle.controller.specs.Effect.{withDisplay, withBus, withMode, withShows, withCursor, withPhase, withPointer, withAuto, withPending, withLatch, withError, pushed, movedOf, setOf, statusOf}
-use Rattle.controller.specs.Position.{positionOf}
+use Rattle.effects.specs.Effect.{withDisplay, withBus, withMode, withShows, withCursor, withPhase, withPointer, withAuto, withPending, withLatch, withError, pushed, movedOf, setOf, statusOf}
+use Rattle.sight.specs.Position.{positionOf}
 
 -- a pair is a kind and a byte
 pub record Pair : Type 0 where
@@ -27,39 +29,11 @@ datum b = record { kind = 0; byte = b }
 abbrev pub code : ℕ → Pair
 code b = record { kind = 1; byte = b }
 
--- the registers and the display memory
-pub record Machine : Type 0 where
-  pub registers : Registers
-  pub memory : List ℕ
-
-abbrev pub machine : Registers → List ℕ → Machine
-machine r m = record { registers = r; memory = m }
-
 -- what comes of a pair: done; done, with a byte read; or refused with a number, which changes nothing
 pub data Step (M : Type 0) : Type 0 where
   done : M → Step M
   answered : M → ℕ → Step M
   refused : ℕ → Step M
-
--- peek with a position: latch = displayed byte, error cleared; otherwise error set
-abbrev pub peekOf : Panel → List ℕ → Machine → Position → Bus
-peekOf p rom s (At r c) =
-    withError (withLatch (s .registers .bus) (displayedByte p (s .registers .display) (s .memory) rom r c)) false
-peekOf p rom s Nowhere = withError (s .registers .bus) true
-
--- graphic bytes of row r from c to C-1 become their displayed bytes, gathered before any is stored
-unfoldable pub copiedOf : Panel → List ℕ → Machine → ℕ → ℕ → List ℕ
-copiedOf p rom s r c =
-    stored (s .memory) (addressOf (s .registers .display .graphic) r c)
-    (build (p .columns - c) (λ j. displayedByte p (s .registers .display) (s .memory) rom r (c + j)))
-
--- copy with a position, not in attribute mode: the row copied, error cleared; otherwise error set
-abbrev pub copyOf : Panel → List ℕ → Machine → Position → Machine
-copyOf p rom s (At r c) =
-    cond (isAttribute (s .registers .display .combination))
-    (machine (withBus (s .registers) (withError (s .registers .bus) true)) (s .memory))
-    (machine (withBus (s .registers) (withError (s .registers .bus) false)) (copiedOf p rom s r c))
-copyOf p rom s Nowhere = machine (withBus (s .registers) (withError (s .registers .bus) true)) (s .memory)
 
 -- the column Effect
 abbrev pub effectOf : Panel → List ℕ → Machine → Command → Machine

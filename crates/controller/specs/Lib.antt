@@ -1,6 +1,4 @@
 pub mod Types
-pub mod Effect
-pub mod Position
 pub mod Access
 pub mod Run
 pub mod Split

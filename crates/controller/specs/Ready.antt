@@ -8,25 +8,12 @@ use lib.ListN.{length, take, drop, set}
 use Rattle.ground.specs.Lists.{stored}
 use Rattle.state.specs.State.{validPanel, validDisplay, validRegisters, none}
 use Rattle.display.specs.Frame.{lentLengths}
-use Rattle.controller.specs.Types.{Panel, Display, Bus, Registers, Line, Acted, Turned, Told, Drawn}
+use Rattle.controller.specs.Types.{Panel, Display, Bus, Registers, Acted, Turned, Told, Drawn}
 use Rattle.codes.specs.Command.{isOff}
-use Rattle.controller.specs.Effect.{withPending}
-use Rattle.controller.specs.Access.{Pair, code, Machine, machine, done, stepOf}
+use Rattle.effects.specs.Effect.{withPending}
+use Rattle.controller.specs.Access.{Pair, code, done, stepOf}
+use Rattle.effects.specs.Machine.{Machine, machine}
 use Rattle.controller.specs.Run.{pairsOf, Standing, Turn, went, halted}
-
--- one access
-pub record Ready (p : Panel) (d : Display) (mem rom : List ℕ) : Type 0 where
-  pub panel : validPanel p ≡ true
-  pub display : validDisplay d ≡ true
-  pub lent : lentLengths mem rom ≡ true
-  pub columns : p .columns ≤ 80
-  pub lines : p .lines ≤ 16
-  pub memory : length mem ≡ 65536
-
--- a line gathered
-pub record Gathered (line : Line) (bytes : List ℕ) : Type 0 where
-  pub few : line .count ≤ 80
-  pub holds : take (line .count) (line .bytes) ≡ bytes
 
 -- a run under way
 pub record Runs (p : Panel) (r : Registers) (mem rom : List ℕ) : Type 0 where

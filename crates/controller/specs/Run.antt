@@ -7,7 +7,8 @@ use lib.ListN.{length, take, set}
 use Rattle.controller.specs.Types.{Panel, Registers, Ran}
 use Rattle.state.specs.State.{validPanel, validRegisters}
 use Rattle.display.specs.Frame.{lentLengths}
-use Rattle.controller.specs.Access.{Pair, Machine, machine, Step, done, answered, refused, stepOf}
+use Rattle.controller.specs.Access.{Pair, Step, done, answered, refused, stepOf}
+use Rattle.effects.specs.Machine.{Machine, machine}
 
 -- the pairs of a log, and the log of some pairs
 unfoldable pub pairsOf : List ℕ → List Pair

@@ -18,10 +18,9 @@ pub use Rattle.codes.specs.declared.command.Command.{Command}
 pub use Rattle.codes.specs.declared.command.Command.the-variants.{Set, Mode, Show, Height, Run, Store, Load, Peek, Copy, Bit}
 pub use Rattle.codes.specs.declared.decode.Decoded.{Decoded}
 pub use Rattle.codes.specs.declared.decode.Decoded.the-variants.{Defined, Undefined}
-pub use Rattle.controller.specs.declared.position.Position.{Position}
-pub use Rattle.controller.specs.declared.position.Position.the-variants.{At, Nowhere}
+pub use Rattle.sight.specs.declared.position.Position.{Position}
+pub use Rattle.sight.specs.declared.position.Position.the-variants.{At, Nowhere}
 pub use Rattle.controller.specs.declared.access.Acted.{Acted}
-pub use Rattle.controller.specs.declared.line.Line.{Line}
 pub use Rattle.controller.specs.declared.run.Ran.{Ran}
 pub use Rattle.controller.specs.declared.run.Turned.{Turned}
 pub use Rattle.controller.specs.declared.run.Told.{Told}

@@ -1,8 +1,4 @@
-// The controller acting on bus pairs: one access, peek and copy, the run of a log.
+// The controller acting on bus pairs: one access, and the run of a log.
 pub mod access;
-mod copy;
-mod effect;
-mod line;
-mod peek;
-pub mod position;
 pub mod run;
+mod store;

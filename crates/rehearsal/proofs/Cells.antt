@@ -17,7 +17,7 @@ use Rattle.state.specs.Combination.{combined}
 use Rattle.display.specs.Frame.{frameOf}
 use Rattle.display.proofs.Painted.{frame-by-rule}
 use Rattle.display.proofs.Plain.{plain, plainGlyph, cell-plain}
-use Rattle.controller.specs.Effect.{withPhase}
+use Rattle.effects.specs.Effect.{withPhase}
 use Rattle.writer.proofs.Places.{cells-few, some-width}
 use Rattle.picture.specs.declared.cursor.Laid.{Laid}
 use Rattle.picture.specs.declared.cursor.Laid.the-variants.{Nowhere, Over}

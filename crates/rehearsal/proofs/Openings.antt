@@ -14,7 +14,8 @@ use Rattle.state.specs.declared.registers.Combination.the-variants.{Or}
 use Rattle.state.specs.declared.registers.Registers.{Registers}
 use Rattle.state.specs.State.{validPanel}
 use Rattle.codes.specs.declared.command.Target.the-variants as target
-use Rattle.controller.specs.Access.{Pair, machine, stepOf}
+use Rattle.controller.specs.Access.{Pair, stepOf}
+use Rattle.effects.specs.Machine.{machine}
 use Rattle.controller.proofs.Takes.{Takes, takes-both, resting, off-taken, word-taken, mode-taken, show-taken}
 use Rattle.contents.specs.declared.ask.Asked.{Asked}
 use Rattle.contents.specs.declared.ask.Asked.the-variants.{Body, Refused}

@@ -24,7 +24,8 @@ use Rattle.codes.specs.declared.command.Target.the-variants as target
 use Rattle.codes.specs.declared.command.Command.the-variants.{Mode}
 use Rattle.codes.specs.declared.decode.Decoded.the-variants.{Defined}
 use Rattle.codes.proofs.Computed.{decode-height, decode-bit, decode-cursor}
-use Rattle.controller.specs.Access.{Pair, Machine, stepOf}
+use Rattle.controller.specs.Access.{Pair, stepOf}
+use Rattle.effects.specs.Machine.{Machine}
 use Rattle.controller.proofs.Takes.{Takes, takes-none, takes-both, resting, behindBytes, word-taken, mode-taken, show-taken, height-taken, bit-taken, block-taken}
 use Rattle.book.specs.declared.operation.Placed.{Placed}
 use Rattle.book.specs.declared.operation.Placed.the-variants.{Text, Rectangle, Dot, Glyph, Cursor as Placed-Cursor, Combine}

@@ -10,7 +10,7 @@ use Rattle.state.specs.declared.panel.Panel.{Panel}
 use Rattle.state.specs.declared.registers.Registers.{Registers}
 use Rattle.state.specs.State.{validRegisters}
 use Rattle.display.specs.Frame.{frameOf}
-use Rattle.controller.specs.Effect.{withPhase}
+use Rattle.effects.specs.Effect.{withPhase}
 use Rattle.controller.specs.Run.{RanAll, runOf}
 use Rattle.book.specs.Operation.{Operation}
 use Rattle.book.specs.Screen.{screenOf}

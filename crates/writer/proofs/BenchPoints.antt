@@ -10,12 +10,12 @@ use lib.ListN.{length, getD, set, length-set}
 use lib.Seq.{getD-set-same}
 use Rattle.display.specs.Displayed.{glyphRow}
 use Rattle.state.specs.Attribute.{attributed, lookOf}
-use Rattle.controller.specs.declared.position.Position.the-variants.{At, Nowhere}
-use Rattle.controller.specs.Effect.{pushed}
-use Rattle.controller.specs.Position.{positionOf}
+use Rattle.sight.specs.declared.position.Position.the-variants.{At, Nowhere}
+use Rattle.effects.specs.Effect.{pushed}
+use Rattle.sight.specs.Position.{positionOf}
 use Rattle.controller.specs.Run.{runFrom}
-use Rattle.controller.proofs.Positions.{position-at, position-none}
-use Rattle.controller.proofs.Pushes.{pushed-one, pushed-two}
+use Rattle.sight.proofs.Positions.{position-at, position-none}
+use Rattle.effects.proofs.Pushes.{pushed-one, pushed-two}
 use Rattle.ground.specs.Lists.{zeros}
 use Rattle.writer.specs.Stream.{pointTo, block, setUp, opening}
 use Rattle.writer.specs.BenchPoints.{BenchPoints}

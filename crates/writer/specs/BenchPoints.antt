@@ -14,10 +14,11 @@ use Rattle.state.specs.declared.registers.Registers.{Registers}
 use Rattle.state.specs.State.{none, resetRegisters}
 use Rattle.display.specs.Displayed.{glyphRow, displayedByte}
 use Rattle.state.specs.Attribute.{attributed}
-use Rattle.controller.specs.declared.position.Position.the-variants.{At}
-use Rattle.controller.specs.Effect.{statusOf}
-use Rattle.controller.specs.Position.{positionOf}
-use Rattle.controller.specs.Access.{Pair, Machine, machine, refused, stepOf}
+use Rattle.sight.specs.declared.position.Position.the-variants.{At}
+use Rattle.effects.specs.Effect.{statusOf}
+use Rattle.sight.specs.Position.{positionOf}
+use Rattle.controller.specs.Access.{Pair, refused, stepOf}
+use Rattle.effects.specs.Machine.{Machine, machine}
 use Rattle.controller.specs.Run.{Run, whole, short, runFrom}
 use Rattle.writer.specs.Stream.{datum, code, opening}
 

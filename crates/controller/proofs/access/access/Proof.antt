@@ -1,6 +1,6 @@
 -- `access` meets its contract: the tests at the door, in order, then the pair.
 use Rattle.controller.proofs.Acts.{access-0, access-1, access-2}
-use Rattle.controller.proofs.Readied.{ready-past}
+use Rattle.sight.proofs.Readied.{ready-past}
 use borrow.Author.Needs.{needs}
 use Rattle.controller.proofs.access.access.Statement.{statement}
 use Rattle.controller.proofs.access.access.Tie as tie

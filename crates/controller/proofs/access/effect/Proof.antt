@@ -1,4 +1,5 @@
 -- `effect` meets its contract, command by command.
+use Rattle.sight.proofs.Readied.{peek-ready, copy-ready}
 use borrow.Author.Needs.{needs}
 use Rattle.controller.proofs.access.effect.Statement.{statement}
 use Rattle.controller.proofs.access.effect.Tie as tie
@@ -88,13 +89,17 @@ same-length-3 : tie.Need-same-length-3
 same-length-3 c = search needs
 
 returns-8 : tie.Need-returns-8
-returns-8 c = rw (c .before .before .enum-told .given .1, c .peek .ensures)
+returns-8 c =
+    let s = c .before .before .before .before .before .before .before .before .before in
+    rw (c .before .before .enum-told .given .1, peek-ready _ (s .args .registers) _ _ (s .pre) (c .peek .ensures))
 
 same-length-4 : tie.Need-same-length-4
 same-length-4 c = search needs
 
 returns-9 : tie.Need-returns-9
-returns-9 c = rw (c .before .before .before .before .enum-told2 .given .1) (c .before .before .copy .ensures)
+returns-9 c =
+    let s = c .before .before .before .before .before .before .before .before .before .before .before in
+    rw (c .before .before .before .before .enum-told2 .given .1) (copy-ready _ (s .args .registers) _ _ (s .pre) (c .before .before .copy .ensures))
 
 same-length-5 : tie.Need-same-length-5
 same-length-5 c = search needs

@@ -4,7 +4,7 @@ use mathlib.Core.Path.{_≡_, sym, _∙_}
 use Prim.Native.Nat.{ℕ, _+_, _%_}
 use native.Mathlib.Omega.{arith}
 use Rattle.controller.specs.Types.{Bus}
-use Rattle.controller.specs.Effect.{withPointer}
+use Rattle.effects.specs.Effect.{withPointer}
 use Rattle.controller.proofs.run.passed.Statement.{statement}
 use Rattle.controller.proofs.run.passed.Tie as tie
 

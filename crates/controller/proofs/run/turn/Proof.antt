@@ -1,5 +1,6 @@
 -- `turn` meets its contract: a read answers, any other pair does not.
-use Rattle.controller.specs.Access.{machine, stepOf}
+use Rattle.effects.specs.Machine.{machine}
+use Rattle.controller.specs.Access.{stepOf}
 use Rattle.controller.proofs.Readied.{ready-runs}
 use Rattle.controller.proofs.Turns.{step-answering, step-acting, turn-taken, turn-answered}
 use borrow.Author.Needs.{needs}

@@ -1,0 +1,15 @@
+-- The declared types that this crate's definitions are about, under one name.
+pub use Rattle.state.specs.declared.registers.Plane.{Plane}
+pub use Rattle.state.specs.declared.registers.Cursor.{Cursor}
+pub use Rattle.state.specs.declared.registers.Shows.{Shows}
+pub use Rattle.state.specs.declared.registers.Combination.{Combination}
+pub use Rattle.state.specs.declared.registers.Combination.the-variants.{Or, Exor, And, Attribute}
+pub use Rattle.state.specs.declared.registers.Display.{Display}
+pub use Rattle.state.specs.declared.registers.Auto.{Auto}
+pub use Rattle.state.specs.declared.registers.Auto.the-variants.{Off, Write, Read}
+pub use Rattle.state.specs.declared.registers.Pending.{Pending}
+pub use Rattle.state.specs.declared.registers.Bus.{Bus}
+pub use Rattle.state.specs.declared.registers.Registers.{Registers}
+pub use Rattle.codes.specs.declared.command.Target.{Target}
+pub use Rattle.codes.specs.declared.command.Move.{Move}
+pub use Rattle.codes.specs.declared.command.Move.the-variants.{Up, Down, Stay}

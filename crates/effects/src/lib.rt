@@ -1,0 +1,2 @@
+// What the parts of an access do to the registers.
+pub mod effect;

@@ -1,0 +1,4 @@
+pub mod Types
+pub mod Position
+pub mod Sight
+pub mod Ready

@@ -1,0 +1,9 @@
+-- The declared types that this crate's definitions are about, under one name.
+pub use Rattle.state.specs.declared.panel.Panel.{Panel}
+pub use Rattle.state.specs.declared.registers.Plane.{Plane}
+pub use Rattle.state.specs.declared.registers.Display.{Display}
+pub use Rattle.state.specs.declared.registers.Bus.{Bus}
+pub use Rattle.state.specs.declared.registers.Registers.{Registers}
+pub use Rattle.sight.specs.declared.position.Position.{Position}
+pub use Rattle.sight.specs.declared.position.Position.the-variants.{At, Nowhere}
+pub use Rattle.sight.specs.declared.line.Line.{Line}
