@@ -18,6 +18,7 @@ use Rattle.controller.proofs.Logs.{log-length, run-takes, takes-valid}
 use Rattle.book.specs.Operation.{Operation}
 use Rattle.book.specs.Screen.{screenOf}
 use Rattle.writer.specs.declared.written.Written.{Written}
+use Rattle.writer.specs.Homes.{graphicHome, textHome, glyphHome}
 use Rattle.writer.specs.Stream.{streamOf}
 use Rattle.writer.specs.Put.{operationsIn}
 use Rattle.writer.proofs.Lengths.{stream-length}
@@ -52,23 +53,26 @@ not-both false b e = inl refl
 
 module _ (p : Panel) (mem : List ℕ) (a : Picture) (graphic : length (a .graphic) ≡ 8 * p .lines * p .columns) (codes : length (a .codes) ≡ p .lines * p .columns) where
   -- outside the areas nothing is stored
-  holding-outside : (i : ℕ) → inAreas p i ≡ false → getD (holding mem a) i 0 ≡ getD mem i 0
+  holding-outside : (i : ℕ) → inAreas p i ≡ false → getD (holding p mem a) i 0 ≡ getD mem i 0
   holding-outside i e =
-      let one = neither (ltb i (8 * p .lines * p .columns) || (leb 0x4000 i && ltb i (0x4000 + p .lines * p .columns))) (leb 0xfc00 i) e in
-      let two = neither (ltb i (8 * p .lines * p .columns)) (leb 0x4000 i && ltb i (0x4000 + p .lines * p .columns)) (one .0) in
-      let low : 8 * p .lines * p .columns ≤ i = ltb-false i (8 * p .lines * p .columns) (two .0) in
-      apart (a .glyphs) _ 0xfc00 i (inl (leb-false 0xfc00 i (one .1)))
-      ∙ apart (a .codes) _ 0x4000 i (text (not-both (leb 0x4000 i) (ltb i (0x4000 + p .lines * p .columns)) (two .1)))
-      ∙ apart (a .graphic) mem 0 i (inr (omega (arith, graphic)))
+      let below : Bool = ltb i (graphicHome + 8 * p .lines * p .columns) in
+      let from : Bool = leb (textHome p) i in
+      let upto : Bool = ltb i (textHome p + p .lines * p .columns) in
+      let one = neither (below || (from && upto)) (leb glyphHome i) e in
+      let two = neither below (from && upto) (one .0) in
+      let low : graphicHome + 8 * p .lines * p .columns ≤ i = ltb-false i (graphicHome + 8 * p .lines * p .columns) (two .0) in
+      apart (a .glyphs) _ glyphHome i (inl (leb-false glyphHome i (one .1)))
+      ∙ apart (a .codes) _ (textHome p) i (text (not-both from upto (two .1)))
+      ∙ apart (a .graphic) mem graphicHome i (inr (omega (arith, graphic)))
     where
-      text : (leb 0x4000 i ≡ false) ⊎ (ltb i (0x4000 + p .lines * p .columns) ≡ false) → (i < 0x4000) ⊎ (0x4000 + length (a .codes) ≤ i)
-      text (inl h) = inl (leb-false 0x4000 i h)
-      text (inr h) = inr (let l : 0x4000 + p .lines * p .columns ≤ i = ltb-false i (0x4000 + p .lines * p .columns) h in omega (arith, codes))
+      text : (leb (textHome p) i ≡ false) ⊎ (ltb i (textHome p + p .lines * p .columns) ≡ false) → (i < textHome p) ⊎ (textHome p + length (a .codes) ≤ i)
+      text (inl h) = inl (leb-false (textHome p) i h)
+      text (inr h) = inr (let l : textHome p + p .lines * p .columns ≤ i = ltb-false i (textHome p + p .lines * p .columns) h in omega (arith, codes))
 
-pub holding-length : (mem : List ℕ) (a : Picture) → length (holding mem a) ≡ length mem
-holding-length mem a =
-    length-sets (sets (sets mem 0 (a .graphic)) 0x4000 (a .codes)) 0xfc00 (a .glyphs)
-    ∙ length-sets (sets mem 0 (a .graphic)) 0x4000 (a .codes) ∙ length-sets mem 0 (a .graphic)
+pub holding-length : (p : Panel) (mem : List ℕ) (a : Picture) → length (holding p mem a) ≡ length mem
+holding-length p mem a =
+    length-sets (sets (sets mem graphicHome (a .graphic)) (textHome p) (a .codes)) glyphHome (a .glyphs)
+    ∙ length-sets (sets mem graphicHome (a .graphic)) (textHome p) (a .codes) ∙ length-sets mem graphicHome (a .graphic)
 
 -- the room's start is the stream
 written-log : (room log : List ℕ) {n : ℕ} → n ≡ length log → n ≤ length room → take n (sets room 0 log) ≡ log
@@ -97,11 +101,11 @@ module _ (p : Panel) (book : List ℕ) (number : ℕ) (room : List ℕ) (r : Reg
         ranAll (record { number = 0; place = 0; taken = length (streamOf p (x .os)); answers = 0; registers = machineFor p r g h a (drawn .pointer) .registers })
         (laid g h (a .graphic) (a .codes) (a .glyphs)) buffer
 
-    holds : laid g h (a .graphic) (a .codes) (a .glyphs) ≡ holding mem a
+    holds : laid g h (a .graphic) (a .codes) (a .glyphs) ≡ holding p mem a
     holds =
         let s : Shape p g h (found p mem) = found-shape p (x .valid) mem size in
         sym
-        (ap (λ (m : List ℕ). holding m a) (found-laid p (x .valid) mem)
+        (ap (λ (m : List ℕ). holding p m a) (found-laid p (x .valid) mem)
         ∙ stored-over g h (found p mem .graphic) (found p mem .codes) (found p mem .glyphs) (a .graphic) (a .codes) (a .glyphs) (s .fits)
         (drawn .shape .graphic ∙ sym (s .graphic)) (drawn .shape .codes ∙ sym (s .codes)) (drawn .shape .fits .glyphs ∙ sym (s .fits .glyphs)))
 

@@ -130,7 +130,7 @@ module _ (p : Panel) (r : Registers) (mem rom book : List ℕ) (number : ℕ) (r
             count = streamed .pairs ∙ stream-length p book number (streamed .whole)
 
             long : length m ≡ 65536
-            long = ap length (shown .memory) ∙ holding-length mem (pictureOf p (operationsIn (screenOf p book number))) ∙ size
+            long = ap length (shown .memory) ∙ holding-length p mem (pictureOf p (operationsIn (screenOf p book number))) ∙ size
 
             picture-is : f ≡ pictureFrame p rom (pictureOf p (operationsIn (screenOf p book number))) (r .display .phase)
             picture-is =
@@ -154,7 +154,7 @@ module _ (p : Panel) (r : Registers) (mem rom book : List ℕ) (number : ℕ) (r
             is-shown : rehearsedAll (record { number = 0; place = 0; pairs = w .pairs; registers = ran .registers }) m after f ≡ shownOf p r mem rom room frame (streamed .os)
             is-shown =
                 λ i. rehearsedAll (record { number = 0; place = 0; pairs = count i; registers = registers-are i })
-                ((shown .memory ∙ ap (λ (os : List Operation). holding mem (pictureOf p os)) same) i)
+                ((shown .memory ∙ ap (λ (os : List Operation). holding p mem (pictureOf p os)) same) i)
                 (streamed .holds i)
                 ((picture-is ∙ ap (λ (os : List Operation). pictureFrame p rom (pictureOf p os) (r .display .phase)) same) i)
 

@@ -14,19 +14,20 @@ use Rattle.effects.specs.Effect.{withPhase}
 use Rattle.controller.specs.Run.{RanAll, runOf}
 use Rattle.book.specs.Operation.{Operation}
 use Rattle.book.specs.Screen.{screenOf}
-use Rattle.writer.specs.Stream.{graphicHome, textHome, glyphHome, countOf}
+use Rattle.writer.specs.Homes.{graphicHome, textHome, glyphHome}
+use Rattle.writer.specs.Stream.{countOf}
 use Rattle.writer.specs.Put.{operationsIn}
 use Rattle.writer.specs.Written.{writeOf}
 use Rattle.picture.specs.Picture.{Picture, pictureOf, pictureFrame}
 
--- the three areas are those cleared: C·8L bytes from 0, C·L from 4000H, 1,024 from FC00H
+-- the three areas are those cleared, from their homes: C·8L bytes, C·L, 1,024 to the memory's end
 abbrev pub inAreas : Panel → ℕ → Bool
 inAreas p i =
-    ltb i (8 * p .lines * p .columns) || (leb textHome i && ltb i (textHome + p .lines * p .columns)) || leb glyphHome i
+    ltb i (graphicHome + 8 * p .lines * p .columns) || (leb (textHome p) i && ltb i (textHome p + p .lines * p .columns)) || leb glyphHome i
 
 -- a memory with the planes of a picture in the three areas
-abbrev pub holding : List ℕ → Picture → List ℕ
-holding mem a = sets (sets (sets mem graphicHome (a .graphic)) textHome (a .codes)) glyphHome (a .glyphs)
+abbrev pub holding : Panel → List ℕ → Picture → List ℕ
+holding p mem a = sets (sets (sets mem graphicHome (a .graphic)) (textHome p) (a .codes)) glyphHome (a .glyphs)
 
 -- what is asked of a run over the stream of these operations
 pub record Shows (p : Panel) (os : List Operation) (r : Registers) (mem rom buffer : List ℕ) (e : RanAll) : Type 0 where
@@ -39,7 +40,7 @@ pub record Shows (p : Panel) (os : List Operation) (r : Registers) (mem rom buff
   -- every address outside the three areas holds what it held
   pub outside : (i : ℕ) → inAreas p i ≡ false → getD (e .memory) i 0 ≡ getD mem i 0
   -- inside them are the picture's planes; the phase is the one found, and nothing was answered
-  pub memory : e .memory ≡ holding mem (pictureOf p os)
+  pub memory : e .memory ≡ holding p mem (pictureOf p os)
   pub phase : e .ran .registers .display .phase ≡ r .display .phase
   pub valid : validRegisters (e .ran .registers) ≡ true
   pub none : e .ran .answers ≡ 0

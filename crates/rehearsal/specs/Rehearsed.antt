@@ -47,7 +47,7 @@ module _ (p : Panel) (r : Registers) (mem rom room frame : List ℕ) where
         pairs = countOf p os;
         registers = runOf p r mem rom (logOf (streamOf p os)) (countOf p os) [] .ran .registers;
       })
-      (holding mem (pictureOf p os))
+      (holding p mem (pictureOf p os))
       (sets room 0 (logOf (streamOf p os)))
       (pictureFrame p rom (pictureOf p os) (r .display .phase))
 

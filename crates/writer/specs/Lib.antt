@@ -1,3 +1,4 @@
+pub mod Homes
 pub mod Stream
 pub mod Written
 pub mod Put
