@@ -8,15 +8,14 @@ use lib.ListN.{length, getD, take}
 use lib.Seq.{sets}
 use Rattle.state.specs.declared.panel.Panel.{Panel}
 use Rattle.state.specs.declared.registers.Registers.{Registers}
-use Rattle.state.specs.State.{validRegisters}
+use Rattle.state.specs.State.{validPanel, validRegisters}
 use Rattle.display.specs.Frame.{frameOf}
 use Rattle.effects.specs.Effect.{withPhase}
 use Rattle.controller.specs.Run.{RanAll, runOf}
 use Rattle.book.specs.Operation.{Operation}
-use Rattle.book.specs.Screen.{screenOf}
+use Rattle.book.specs.Screen.{screen, screenOf}
 use Rattle.writer.specs.Homes.{graphicHome, textHome, glyphHome}
 use Rattle.writer.specs.Stream.{countOf}
-use Rattle.writer.specs.Put.{operationsIn}
 use Rattle.writer.specs.Written.{writeOf}
 use Rattle.picture.specs.Picture.{Picture, pictureOf, pictureFrame}
 
@@ -46,15 +45,19 @@ pub record Shows (p : Panel) (os : List Operation) (r : Registers) (mem rom buff
   pub none : e .ran .answers ≡ 0
   pub answers : e .answers ≡ buffer
 
--- every panel, book and screen that the writer accepts, every valid registers, every memory of 65,536 bytes, every ROM of 1,024
+-- any well-formed screen, valid panel and enough room, from every valid registers, memory of 65,536 bytes and ROM of 1,024:
+-- the writer accepts, and the run over what it wrote shows the picture
 abbrev pub Demand3 : Type 0
 Demand3 =
-    (p : Panel) (book : List ℕ) (number : ℕ) (room : List ℕ) (r : Registers) (mem rom answers : List ℕ) (limit : ℕ)
+    (p : Panel) (book : List ℕ) (number : ℕ) (os : List Operation) (room : List ℕ)
+    (r : Registers) (mem rom answers : List ℕ) (limit : ℕ)
     → ((i : ℕ) → getD book i 0 < 256)
-    → writeOf p book number room .written .number ≡ 0
+    → validPanel p ≡ true
+    → screenOf p book number ≡ screen os
+    → 2 * countOf p os ≤ length room
     → validRegisters r ≡ true
     → length mem ≡ 65536
     → length rom ≡ 1024
-    → writeOf p book number room .written .pairs ≤ limit
-    → Shows p (operationsIn (screenOf p book number)) r mem rom answers
-    (runOf p r mem rom (take (2 * writeOf p book number room .written .pairs) (writeOf p book number room .room)) limit answers)
+    → countOf p os ≤ limit
+    → (writeOf p book number room .written ≡ record { number = 0; place = 0; pairs = countOf p os })
+    × Shows p os r mem rom answers (runOf p r mem rom (take (2 * countOf p os) (writeOf p book number room .room)) limit answers)
