@@ -154,8 +154,7 @@ module _ (p : Panel) (v : validPanel p ≡ true) (book : List ℕ) (bytes : (i :
 
 pub demand-3 : Demand3
 demand-3 p book number os room r mem rom answers limit bytes v whole fits valid size characters few =
-    let e : writeOf p book number room ≡ wrote 0 0 (countOf p os) (sets room 0 (logOf (streamOf p os))) = write-fits p book number room v whole fits in
-    (
+    let e : writeOf p book number room ≡ wrote 0 0 (countOf p os) (sets room 0 (logOf (streamOf p os))) = write-fits p book number room v whole fits in (
       ap (λ (o : Wrote). o .written) e,
       subst (λ (o : Wrote). Shows p os r mem rom answers (runOf p r mem rom (take (2 * countOf p os) (o .room)) limit answers)) (sym e)
           (shows p v book bytes number whole r mem rom valid size characters answers limit few room fits),

@@ -1,4 +1,3 @@
-pub mod BenchPoints
 pub mod Lengths
 pub mod Puts
 pub mod Loops

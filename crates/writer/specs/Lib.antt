@@ -2,4 +2,3 @@ pub mod Homes
 pub mod Stream
 pub mod Written
 pub mod Put
-pub mod BenchPoints
