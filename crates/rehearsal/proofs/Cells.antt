@@ -3,7 +3,7 @@ use mathlib.Core.Path.{_≡_, refl, ap, _∙_}
 use mathlib.Core.Bool.{Bool, true, false, cond, _&&_}
 use mathlib.Core.List.{List}
 use Prim.Native.Nat.{ℕ, _+_, _-_, _*_, _/_, _%_, _^_, _≤_, _<_}
-use native.Mathlib.Nat.{mul-le-mul-right, mul-assoc}
+use native.Mathlib.Nat.{mul-le-mul-right}
 use native.Mathlib.Omega.{arith}
 use lib.Dec.{ltb}
 use lib.ListN.{getD}
@@ -18,7 +18,9 @@ use Rattle.display.specs.Frame.{frameOf}
 use Rattle.display.proofs.Painted.{frame-by-rule}
 use Rattle.display.proofs.Plain.{plain, plainGlyph, cell-plain}
 use Rattle.effects.specs.Effect.{withPhase}
-use Rattle.writer.proofs.Places.{cells-few, some-width}
+use Rattle.writer.specs.Homes.{graphicHome, textHome, glyphHome}
+use Rattle.writer.proofs.Places.{some-width}
+use Rattle.writer.proofs.Apart.{graphic-below-text, text-below-glyphs}
 use Rattle.picture.specs.declared.cursor.Laid.{Laid}
 use Rattle.picture.specs.declared.cursor.Laid.the-variants.{Nowhere, Over}
 use Rattle.picture.specs.Picture.{Picture, pictureGlyph, litIn, coveredBy, pictureCell, pictureFrame}
@@ -34,16 +36,16 @@ module _ (p : Panel) (v : validPanel p ≡ true) (g h : List ℕ) (a : Picture) 
   abbrev mem : List ℕ
   mem = laid g h (a .graphic) (a .codes) (a .glyphs)
 
-  code-same : (l c : ℕ) → l < p .lines → c < p .columns → getD mem (addressOf (planeAt 0x4000 p) l c) 0 ≡ getD (a .codes) (l * p .columns + c) 0
+  code-same : (l c : ℕ) → l < p .lines → c < p .columns → getD mem (addressOf (planeAt (textHome p) p) l c) 0 ≡ getD (a .codes) (l * p .columns + c) 0
   code-same l c i j =
       let few : l * p .columns + c < p .lines * p .columns = omega (arith, mul-le-mul-right (p .columns) i) in
-      let e : (0x4000 + l * p .columns + c) % 65536 ≡ 0x4000 + (l * p .columns + c) = omega (arith, cells-few p v) in
+      let e : (textHome p + l * p .columns + c) % 65536 ≡ textHome p + (l * p .columns + c) = omega (arith, text-below-glyphs p v) in
       ap (λ (n : ℕ). getD mem n 0) e ∙ text-at g h (a .graphic) (a .codes) (a .glyphs) (s .fits) (l * p .columns + c) (omega (arith, s .codes))
 
-  graphic-same : (r c : ℕ) → r < 8 * p .lines → c < p .columns → getD mem (addressOf (planeAt 0 p) r c) 0 ≡ getD (a .graphic) (r * p .columns + c) 0
+  graphic-same : (r c : ℕ) → r < 8 * p .lines → c < p .columns → getD mem (addressOf (planeAt graphicHome p) r c) 0 ≡ getD (a .graphic) (r * p .columns + c) 0
   graphic-same r c i j =
       let few : r * p .columns + c < 8 * p .lines * p .columns = omega (arith, mul-le-mul-right (p .columns) i) in
-      let e : (0 + r * p .columns + c) % 65536 ≡ r * p .columns + c = omega (arith, cells-few p v, mul-assoc 8 (p .lines) (p .columns)) in
+      let e : (graphicHome + r * p .columns + c) % 65536 ≡ r * p .columns + c = omega (arith, graphic-below-text p v, text-below-glyphs p v) in
       ap (λ (n : ℕ). getD mem n 0) e ∙ graphic-at g h (a .graphic) (a .codes) (a .glyphs) (s .fits) (r * p .columns + c) (omega (arith, s .graphic))
 
   glyph-same : (rom : List ℕ) (k i : ℕ) → plainGlyph 0x1f mem rom k i ≡ pictureGlyph rom a k i
@@ -55,7 +57,7 @@ module _ (p : Panel) (v : validPanel p ≡ true) (g h : List ℕ) (a : Picture) 
       by true e = refl
       by false e =
           let high : 0x80 ≤ k = ltb-false k 0x80 e in
-          let q : 2048 * 0x1f + 8 * k + i ≡ 0xfc00 + (8 * (k - 0x80) + i) = omega arith in
+          let q : 2048 * 0x1f + 8 * k + i ≡ glyphHome + (8 * (k - 0x80) + i) = omega arith in
           ap (λ (n : ℕ). getD mem n 0) q ∙ glyph-at g h (a .graphic) (a .codes) (a .glyphs) (s .fits) (8 * (k - 0x80) + i)
 
   module _ (d : Display) (rom : List ℕ) (phase : Bool) where
@@ -64,7 +66,7 @@ module _ (p : Panel) (v : validPanel p ≡ true) (g h : List ℕ) (a : Picture) 
     unfolding displayFor pictureCell
     cell-same r c i j =
         let w : ℕ = 2 ^ p .width in
-        cell-plain p (planeAt 0x4000 p) (planeAt 0 p) 0x1f (a .combination) (cursorOn (a .cursor)) (cursorBlinks (a .cursor)) (cursorIn (d .cursor) (a .cursor)) phase mem rom r c (s .plain)
+        cell-plain p (planeAt (textHome p) p) (planeAt graphicHome p) 0x1f (a .combination) (cursorOn (a .cursor)) (cursorBlinks (a .cursor)) (cursorIn (d .cursor) (a .cursor)) phase mem rom r c (s .plain)
         ∙ (λ t. cond (cursor-same p (d .cursor) (a .cursor) phase (r / 8) (r % 8) c t) (w - 1)
         (combined (a .combination)
         ((ap (λ (k : ℕ). plainGlyph 0x1f mem rom k (r % 8)) (code-same (r / 8) c (omega arith) j) ∙ glyph-same rom (getD (a .codes) (r / 8 * p .columns + c) 0) (r % 8)) t % w)

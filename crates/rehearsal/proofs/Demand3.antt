@@ -12,16 +12,16 @@ use borrow.Author.Tests.{ltb-false, leb-false, eq-eqb}
 use Rattle.ground.proofs.Tests.{both}
 use Rattle.state.specs.declared.panel.Panel.{Panel}
 use Rattle.state.specs.declared.registers.Registers.{Registers}
-use Rattle.state.specs.State.{validRegisters}
+use Rattle.state.specs.State.{validPanel, validRegisters}
 use Rattle.controller.specs.Run.{logOf, RanAll, ranAll, runOf}
 use Rattle.controller.proofs.Logs.{log-length, run-takes, takes-valid}
 use Rattle.book.specs.Operation.{Operation}
-use Rattle.book.specs.Screen.{screenOf}
-use Rattle.writer.specs.declared.written.Written.{Written}
-use Rattle.writer.specs.Stream.{streamOf}
-use Rattle.writer.specs.Put.{operationsIn}
+use Rattle.book.specs.Screen.{screen, screenOf}
+use Rattle.writer.specs.Homes.{graphicHome, textHome, glyphHome}
+use Rattle.writer.specs.Stream.{streamOf, countOf}
+use Rattle.writer.specs.Written.{Wrote, wrote, writeOf}
 use Rattle.writer.proofs.Lengths.{stream-length}
-use Rattle.writer.proofs.Answers.{Streamed, write-accepted}
+use Rattle.writer.proofs.Answers.{write-fits}
 use Rattle.picture.specs.Picture.{Picture, pictureOf}
 use Rattle.rehearsal.specs.Demand3.{inAreas, holding, Shows, Demand3}
 use Rattle.rehearsal.proofs.Areas.{laid, stored-over}
@@ -52,32 +52,35 @@ not-both false b e = inl refl
 
 module _ (p : Panel) (mem : List ℕ) (a : Picture) (graphic : length (a .graphic) ≡ 8 * p .lines * p .columns) (codes : length (a .codes) ≡ p .lines * p .columns) where
   -- outside the areas nothing is stored
-  holding-outside : (i : ℕ) → inAreas p i ≡ false → getD (holding mem a) i 0 ≡ getD mem i 0
+  holding-outside : (i : ℕ) → inAreas p i ≡ false → getD (holding p mem a) i 0 ≡ getD mem i 0
   holding-outside i e =
-      let one = neither (ltb i (8 * p .lines * p .columns) || (leb 0x4000 i && ltb i (0x4000 + p .lines * p .columns))) (leb 0xfc00 i) e in
-      let two = neither (ltb i (8 * p .lines * p .columns)) (leb 0x4000 i && ltb i (0x4000 + p .lines * p .columns)) (one .0) in
-      let low : 8 * p .lines * p .columns ≤ i = ltb-false i (8 * p .lines * p .columns) (two .0) in
-      apart (a .glyphs) _ 0xfc00 i (inl (leb-false 0xfc00 i (one .1)))
-      ∙ apart (a .codes) _ 0x4000 i (text (not-both (leb 0x4000 i) (ltb i (0x4000 + p .lines * p .columns)) (two .1)))
-      ∙ apart (a .graphic) mem 0 i (inr (omega (arith, graphic)))
+      let below : Bool = ltb i (graphicHome + 8 * p .lines * p .columns) in
+      let from : Bool = leb (textHome p) i in
+      let upto : Bool = ltb i (textHome p + p .lines * p .columns) in
+      let one = neither (below || (from && upto)) (leb glyphHome i) e in
+      let two = neither below (from && upto) (one .0) in
+      let low : graphicHome + 8 * p .lines * p .columns ≤ i = ltb-false i (graphicHome + 8 * p .lines * p .columns) (two .0) in
+      apart (a .glyphs) _ glyphHome i (inl (leb-false glyphHome i (one .1)))
+      ∙ apart (a .codes) _ (textHome p) i (text (not-both from upto (two .1)))
+      ∙ apart (a .graphic) mem graphicHome i (inr (omega (arith, graphic)))
     where
-      text : (leb 0x4000 i ≡ false) ⊎ (ltb i (0x4000 + p .lines * p .columns) ≡ false) → (i < 0x4000) ⊎ (0x4000 + length (a .codes) ≤ i)
-      text (inl h) = inl (leb-false 0x4000 i h)
-      text (inr h) = inr (let l : 0x4000 + p .lines * p .columns ≤ i = ltb-false i (0x4000 + p .lines * p .columns) h in omega (arith, codes))
+      text : (leb (textHome p) i ≡ false) ⊎ (ltb i (textHome p + p .lines * p .columns) ≡ false) → (i < textHome p) ⊎ (textHome p + length (a .codes) ≤ i)
+      text (inl h) = inl (leb-false (textHome p) i h)
+      text (inr h) = inr (let l : textHome p + p .lines * p .columns ≤ i = ltb-false i (textHome p + p .lines * p .columns) h in omega (arith, codes))
 
-pub holding-length : (mem : List ℕ) (a : Picture) → length (holding mem a) ≡ length mem
-holding-length mem a =
-    length-sets (sets (sets mem 0 (a .graphic)) 0x4000 (a .codes)) 0xfc00 (a .glyphs)
-    ∙ length-sets (sets mem 0 (a .graphic)) 0x4000 (a .codes) ∙ length-sets mem 0 (a .graphic)
+pub holding-length : (p : Panel) (mem : List ℕ) (a : Picture) → length (holding p mem a) ≡ length mem
+holding-length p mem a =
+    length-sets (sets (sets mem graphicHome (a .graphic)) (textHome p) (a .codes)) glyphHome (a .glyphs)
+    ∙ length-sets (sets mem graphicHome (a .graphic)) (textHome p) (a .codes) ∙ length-sets mem graphicHome (a .graphic)
 
 -- the room's start is the stream
 written-log : (room log : List ℕ) {n : ℕ} → n ≡ length log → n ≤ length room → take n (sets room 0 log) ≡ log
 written-log room log {n} e l =
     ap (take n) (sets-eq log room 0 (omega arith)) ∙ take-at log (drop (0 + length log) room) n (sym e)
 
-module _ (p : Panel) (book : List ℕ) (number : ℕ) (room : List ℕ) (r : Registers) (mem rom : List ℕ)
-    (bytes : (i : ℕ) → getD book i 0 < 256) (valid : validRegisters r ≡ true) (size : length mem ≡ 65536) (characters : length rom ≡ 1024)
-    {w : Written} {after : List ℕ} (x : Streamed p book number room w after) where
+module _ (p : Panel) (v : validPanel p ≡ true) (book : List ℕ) (bytes : (i : ℕ) → getD book i 0 < 256) (number : ℕ) {os : List Operation}
+    (whole : screenOf p book number ≡ screen os) (r : Registers) (mem rom : List ℕ)
+    (valid : validRegisters r ≡ true) (size : length mem ≡ 65536) (characters : length rom ≡ 1024) where
   abbrev g : List ℕ
   g = firstGap p mem
 
@@ -85,34 +88,37 @@ module _ (p : Panel) (book : List ℕ) (number : ℕ) (room : List ℕ) (r : Reg
   h = secondGap p mem
 
   abbrev a : Picture
-  a = pictureOf p (x .os)
+  a = pictureOf p os
 
-  drawn : Drawn p (x .valid) mem size rom r (x .os)
-  drawn = stream-draws p (x .valid) mem size rom r book bytes number (x .whole)
+  drawn : Drawn p v mem size rom r os
+  drawn = stream-draws p v mem size rom r book bytes number whole
+
+  long : length (streamOf p os) ≡ countOf p os
+  long = stream-length p book number whole
 
   module _ (buffer : List ℕ) where
     -- what the run over the stream comes to
     abbrev came : RanAll
     came =
-        ranAll (record { number = 0; place = 0; taken = length (streamOf p (x .os)); answers = 0; registers = machineFor p r g h a (drawn .pointer) .registers })
+        ranAll (record { number = 0; place = 0; taken = length (streamOf p os); answers = 0; registers = machineFor p r g h a (drawn .pointer) .registers })
         (laid g h (a .graphic) (a .codes) (a .glyphs)) buffer
 
-    holds : laid g h (a .graphic) (a .codes) (a .glyphs) ≡ holding mem a
+    holds : laid g h (a .graphic) (a .codes) (a .glyphs) ≡ holding p mem a
     holds =
-        let s : Shape p g h (found p mem) = found-shape p (x .valid) mem size in
+        let s : Shape p g h (found p mem) = found-shape p v mem size in
         sym
-        (ap (λ (m : List ℕ). holding m a) (found-laid p (x .valid) mem)
+        (ap (λ (m : List ℕ). holding p m a) (found-laid p v mem)
         ∙ stored-over g h (found p mem .graphic) (found p mem .codes) (found p mem .glyphs) (a .graphic) (a .codes) (a .glyphs) (s .fits)
         (drawn .shape .graphic ∙ sym (s .graphic)) (drawn .shape .codes ∙ sym (s .codes)) (drawn .shape .fits .glyphs ∙ sym (s .fits .glyphs)))
 
-    came-shows : Shows p (x .os) r mem rom buffer came
+    came-shows : Shows p os r mem rom buffer came
     unfolding displayFor
     came-shows =
         record {
           number = refl;
           place = refl;
-          taken = stream-length p book number (x .whole);
-          frame = λ phase. frame-same p (x .valid) g h a (drawn .shape) (r .display) rom phase;
+          taken = long;
+          frame = λ phase. frame-same p v g h a (drawn .shape) (r .display) rom phase;
           outside = λ i e. ap (λ (m : List ℕ). getD m i 0) holds ∙ holding-outside p mem a (drawn .shape .graphic) (drawn .shape .codes) i e;
           memory = holds;
           phase = refl;
@@ -121,33 +127,35 @@ module _ (p : Panel) (book : List ℕ) (number : ℕ) (room : List ℕ) (r : Reg
           answers = refl;
         }
 
-    module _ (limit : ℕ) (few : w .pairs ≤ limit) where
-      over-stream : runOf p r mem rom (logOf (streamOf p (x .os))) limit buffer ≡ came
+    module _ (limit : ℕ) (few : countOf p os ≤ limit) where
+      over-stream : runOf p r mem rom (logOf (streamOf p os)) limit buffer ≡ came
       over-stream =
-          run-takes p r mem rom (streamOf p (x .os)) limit buffer (x .valid) valid (both (eq-eqb (length mem) 65536 size) (eq-eqb (length rom) 1024 characters))
-          (omega (arith, x .pairs)) (drawn .run)
+          run-takes p r mem rom (streamOf p os) limit buffer v valid (both (eq-eqb (length mem) 65536 size) (eq-eqb (length rom) 1024 characters))
+          (omega (arith, long)) (drawn .run)
 
-      over-room : runOf p r mem rom (take (2 * w .pairs) after) limit buffer ≡ came
-      over-room =
-          ap (λ (l : List ℕ). runOf p r mem rom l limit buffer)
-          (ap (take (2 * w .pairs)) (x .holds)
-          ∙ written-log room (logOf (streamOf p (x .os))) (omega (arith, x .pairs, log-length (streamOf p (x .os)))) (x .fits))
-          ∙ over-stream
+      module _ (room : List ℕ) (fits : 2 * countOf p os ≤ length room) where
+        over-room : runOf p r mem rom (take (2 * countOf p os) (sets room 0 (logOf (streamOf p os)))) limit buffer ≡ came
+        over-room =
+            ap (λ (l : List ℕ). runOf p r mem rom l limit buffer)
+            (written-log room (logOf (streamOf p os)) (omega (arith, long, log-length (streamOf p os))) fits)
+            ∙ over-stream
 
-      -- the run over the written room
-      pub shows : Shows p (operationsIn (screenOf p book number)) r mem rom buffer (runOf p r mem rom (take (2 * w .pairs) after) limit buffer)
-      shows =
-          subst (λ (os : List Operation). Shows p os r mem rom buffer _) (sym (ap operationsIn (x .whole)))
-          (subst (λ (e : RanAll). Shows p (x .os) r mem rom buffer e) (sym over-room) came-shows)
+        -- the run over the written room
+        pub shows : Shows p os r mem rom buffer (runOf p r mem rom (take (2 * countOf p os) (sets room 0 (logOf (streamOf p os)))) limit buffer)
+        shows = subst (λ (e : RanAll). Shows p os r mem rom buffer e) (sym over-room) came-shows
 
   -- the registers then, whatever buffer is lent
-  pub registers-then : (buffer : List ℕ)
-      → runOf p r mem rom (take (2 * w .pairs) after) (w .pairs) buffer .ran .registers
-      ≡ runOf p r mem rom (logOf (streamOf p (x .os))) (w .pairs) [] .ran .registers
-  registers-then buffer =
-      ap (λ (e : RanAll). e .ran .registers) (over-room buffer (w .pairs) (omega arith))
-      ∙ sym (ap (λ (e : RanAll). e .ran .registers) (over-stream [] (w .pairs) (omega arith)))
+  pub registers-then : (buffer room : List ℕ) → 2 * countOf p os ≤ length room
+      → runOf p r mem rom (take (2 * countOf p os) (sets room 0 (logOf (streamOf p os)))) (countOf p os) buffer .ran .registers
+      ≡ runOf p r mem rom (logOf (streamOf p os)) (countOf p os) [] .ran .registers
+  registers-then buffer room fits =
+      ap (λ (e : RanAll). e .ran .registers) (over-room buffer (countOf p os) (omega arith) room fits)
+      ∙ sym (ap (λ (e : RanAll). e .ran .registers) (over-stream [] (countOf p os) (omega arith)))
 
 pub demand-3 : Demand3
-demand-3 p book number room r mem rom answers limit bytes accepted valid size characters few =
-    shows p book number room r mem rom bytes valid size characters (write-accepted p book number room refl accepted) answers limit few
+demand-3 p book number os room r mem rom answers limit bytes v whole fits valid size characters few =
+    let e : writeOf p book number room ≡ wrote 0 0 (countOf p os) (sets room 0 (logOf (streamOf p os))) = write-fits p book number room v whole fits in (
+      ap (λ (o : Wrote). o .written) e,
+      subst (λ (o : Wrote). Shows p os r mem rom answers (runOf p r mem rom (take (2 * countOf p os) (o .room)) limit answers)) (sym e)
+          (shows p v book bytes number whole r mem rom valid size characters answers limit few room fits),
+    )

@@ -4,3 +4,4 @@ pub mod Openings
 pub mod Cells
 pub mod Demand3
 pub mod Rehearsals
+pub mod BenchPoints

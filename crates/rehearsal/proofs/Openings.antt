@@ -1,33 +1,36 @@
 -- Any memory is planes at their homes; the opening, from any state, leaves the machine that shows the blank picture; a whole stream the one that shows its picture.
 use mathlib.Core.Path.{_≡_, refl, sym, ap, subst, _∙_}
-use mathlib.Core.Bool.{true}
+use mathlib.Core.Bool.{true, false}
 use mathlib.Core.List.{List, _++_}
-use Prim.Native.Nat.{ℕ, _+_, _-_, _*_, _≤_, _<_}
-use native.Mathlib.Nat.{mul-assoc}
+use Prim.Native.Nat.{ℕ, _+_, _-_, _*_, _/_, _%_, _≤_, _<_}
+use native.Mathlib.Nat.{add-zero}
 use native.Mathlib.Omega.{arith}
 use lib.ListN.{length, getD, take, drop, length-take, length-drop, length-replicate, take-append-drop}
 use lib.Seq.{sets, drop-drop}
+use Rattle.ground.specs.Bytes.{wordOf}
 use Rattle.ground.specs.Lists.{zeros}
 use Rattle.ground.proofs.Stores.{sets-all}
 use Rattle.state.specs.declared.panel.Panel.{Panel}
 use Rattle.state.specs.declared.registers.Combination.the-variants.{Or}
 use Rattle.state.specs.declared.registers.Registers.{Registers}
 use Rattle.state.specs.State.{validPanel}
+use Rattle.display.proofs.Plain.{plain}
 use Rattle.codes.specs.declared.command.Target.the-variants as target
 use Rattle.controller.specs.Access.{Pair, stepOf}
-use Rattle.effects.specs.Machine.{machine}
+use Rattle.effects.specs.Machine.{Machine, machine}
 use Rattle.controller.proofs.Takes.{Takes, takes-both, resting, off-taken, word-taken, mode-taken, show-taken}
 use Rattle.contents.specs.declared.ask.Asked.{Asked}
 use Rattle.contents.specs.declared.ask.Asked.the-variants.{Body, Refused}
 use Rattle.book.specs.Operation.{Operation}
 use Rattle.book.specs.Screen.{screen, screenIn, screenOf}
 use Rattle.contents.specs.Asked.{askedOf}
+use Rattle.writer.specs.Homes.{graphicHome, textHome, glyphHome}
 use Rattle.writer.specs.Stream.{block, setUp, opening, bodyPairs, streamOf}
-use Rattle.writer.proofs.Places.{cells-few}
+use Rattle.writer.proofs.Apart.{graphic-below-text, text-below-glyphs}
 use Rattle.picture.specs.declared.cursor.Laid.the-variants.{Nowhere}
 use Rattle.picture.specs.Picture.{Picture, blank, withPlanes, pictureOf}
 use Rattle.rehearsal.proofs.Areas.{laid}
-use Rattle.rehearsal.proofs.Simulated.{displayFor, machineFor, Shape, Simulates, sim-both, sim-graphic, sim-codes, sim-glyphs, sim-body}
+use Rattle.rehearsal.proofs.Simulated.{planeAt, displayFor, machineFor, Shape, Simulates, sim-both, sim-graphic, sim-codes, sim-glyphs, sim-body}
 
 -- the lengths of the graphic and the text plane
 unfoldable pub graphicBytes : Panel → ℕ
@@ -38,18 +41,18 @@ textBytes p = p .lines * p .columns
 
 -- what lies between the areas
 unfoldable pub firstGap : Panel → List ℕ → List ℕ
-firstGap p m = take (0x4000 - graphicBytes p) (drop (graphicBytes p) m)
+firstGap p m = take (textHome p - graphicBytes p) (drop (graphicBytes p) m)
 
 unfoldable pub secondGap : Panel → List ℕ → List ℕ
-secondGap p m = take (0xbc00 - textBytes p) (drop (0x4000 + textBytes p) m)
+secondGap p m = take (glyphHome - (textHome p + textBytes p)) (drop (textHome p + textBytes p) m)
 
 -- the areas as they are found, as planes
 unfoldable pub found : Panel → List ℕ → Picture
 found p m =
     record {
       graphic = take (graphicBytes p) m;
-      codes = take (textBytes p) (drop 0x4000 m);
-      glyphs = drop 0xfc00 m;
+      codes = take (textBytes p) (drop (textHome p) m);
+      glyphs = drop glyphHome m;
       combination = Or;
       cursor = Nowhere;
     }
@@ -66,30 +69,31 @@ all-zeros : (l : List ℕ) (n : ℕ) → length l ≡ n → sets l 0 (zeros n) �
 all-zeros l n e = sets-all l (zeros n) (zeros-length n ∙ sym e)
 
 module _ (p : Panel) (v : validPanel p ≡ true) (m : List ℕ) where
-  text-few : textBytes p ≤ 1280
-  unfolding textBytes
-  text-few = cells-few p v
+  graphic-below : graphicBytes p ≤ textHome p
+  unfolding graphicBytes
+  graphic-below = omega (arith, graphic-below-text p v)
 
-  graphic-few : graphicBytes p ≤ 10240
-  unfolding graphicBytes textBytes
-  graphic-few = omega (arith, text-few, mul-assoc 8 (p .lines) (p .columns))
+  text-below : textHome p + textBytes p ≤ glyphHome
+  unfolding textBytes
+  text-below = text-below-glyphs p v
 
   pub found-laid : m ≡ laid (firstGap p m) (secondGap p m) (found p m .graphic) (found p m .codes) (found p m .glyphs)
   unfolding laid firstGap secondGap found
   found-laid =
       let n : ℕ = graphicBytes p in
       let t : ℕ = textBytes p in
-      let e : n + (0x4000 - n) ≡ 0x4000 = omega (arith, graphic-few) in
-      let f : 0x4000 + t + (0xbc00 - t) ≡ 0xfc00 = omega (arith, text-few) in
+      let u : ℕ = textHome p in
+      let e : n + (u - n) ≡ u = omega (arith, graphic-below) in
+      let f : u + t + (glyphHome - (u + t)) ≡ glyphHome = omega (arith, text-below) in
       sym (take-append-drop n m)
       ∙ ap (λ (l : List ℕ). take n m ++ l)
-      (part (0x4000 - n) n m
-      ∙ ap (λ (l : List ℕ). take (0x4000 - n) (drop n m) ++ l)
+      (part (u - n) n m
+      ∙ ap (λ (l : List ℕ). take (u - n) (drop n m) ++ l)
       (ap (λ (j : ℕ). drop j m) e
-      ∙ part t 0x4000 m
-      ∙ ap (λ (l : List ℕ). take t (drop 0x4000 m) ++ l)
-      (part (0xbc00 - t) (0x4000 + t) m
-      ∙ ap (λ (j : ℕ). take (0xbc00 - t) (drop (0x4000 + t) m) ++ drop j m) f)))
+      ∙ part t u m
+      ∙ ap (λ (l : List ℕ). take t (drop u m) ++ l)
+      (part (glyphHome - (u + t)) (u + t) m
+      ∙ ap (λ (j : ℕ). take (glyphHome - (u + t)) (drop (u + t) m) ++ drop j m) f)))
 
   module _ (size : length m ≡ 65536) where
     pub found-shape : Shape p (firstGap p m) (secondGap p m) (found p m)
@@ -97,12 +101,12 @@ module _ (p : Panel) (v : validPanel p ≡ true) (m : List ℕ) where
     found-shape =
         record {
           fits = record {
-            text-at = simp (length-take, length-drop) (omega (arith, graphic-few));
-            glyphs-at = simp (length-take, length-drop) (omega (arith, text-few));
+            text-at = simp (length-take, length-drop) (omega (arith, graphic-below, text-below));
+            glyphs-at = simp (length-take, length-drop) (omega (arith, text-below));
             glyphs = simp length-drop (omega arith);
           };
-          graphic = simp length-take (omega (arith, graphic-few));
-          codes = simp (length-take, length-drop) (omega (arith, text-few));
+          graphic = simp length-take (omega (arith, graphic-below, text-below));
+          codes = simp (length-take, length-drop) (omega (arith, text-below));
           plain = refl;
         }
 
@@ -111,14 +115,19 @@ module _ (p : Panel) (v : validPanel p ≡ true) (m : List ℕ) where
       set-up : Takes (stepOf p rom) (setUp p) (machine r m) (resting (displayFor p (r .display) (found p m)) (r .bus .pointer) (r .bus .latch) (r .bus .error) m)
       unfolding setUp displayFor found
       set-up =
-          takes-both (off-taken p rom (machine r m))
-          (takes-both (word-taken p rom _ (r .bus .pointer) (r .bus .latch) (r .bus .error) m target.TextHome 0x40 0x00 0x40 refl)
+          let w : wordOf (textHome p % 256) (textHome p / 256) ≡ textHome p = omega arith in
+          subst (λ (n : ℕ). Takes (stepOf p rom) (setUp p) (machine r m) (at-home n)) w
+          (takes-both (off-taken p rom (machine r m))
+          (takes-both (word-taken p rom _ (r .bus .pointer) (r .bus .latch) (r .bus .error) m target.TextHome 0x40 (textHome p % 256) (textHome p / 256) refl)
           (takes-both (word-taken p rom _ (r .bus .pointer) (r .bus .latch) (r .bus .error) m target.TextArea 0x41 (p .columns) 0x00 refl)
           (takes-both (word-taken p rom _ (r .bus .pointer) (r .bus .latch) (r .bus .error) m target.GraphicHome 0x42 0x00 0x00 refl)
           (takes-both (word-taken p rom _ (r .bus .pointer) (r .bus .latch) (r .bus .error) m target.GraphicArea 0x43 (p .columns) 0x00 refl)
           (takes-both (word-taken p rom _ (r .bus .pointer) (r .bus .latch) (r .bus .error) m target.Offset 0x22 0x1f 0x00 refl)
           (takes-both (mode-taken p rom _ (r .bus .pointer) (r .bus .latch) (r .bus .error) m 0x80 refl)
-          (show-taken p rom _ (r .bus .pointer) (r .bus .latch) (r .bus .error) m 0x9c refl)))))))
+          (show-taken p rom _ (r .bus .pointer) (r .bus .latch) (r .bus .error) m 0x9c refl))))))))
+        where
+          at-home : ℕ → Machine
+          at-home n = resting (plain (planeAt n p) (planeAt graphicHome p) 0x1f Or false false (r .display .cursor) (r .display .phase)) (r .bus .pointer) (r .bus .latch) (r .bus .error) m
 
       set-up-found : Takes (stepOf p rom) (setUp p) (machine r m) (machineFor p r (firstGap p m) (secondGap p m) (found p m) (r .bus .pointer))
       set-up-found =
@@ -135,28 +144,28 @@ module _ (p : Panel) (v : validPanel p ≡ true) (m : List ℕ) where
       second : Picture
       second = withPlanes (found p m) (zeros (graphicBytes p)) (zeros (textBytes p)) (found p m .glyphs)
 
-      clear-graphic : (q : ℕ) → Sim (block 0 (zeros (graphicBytes p))) (found p m) first q
+      clear-graphic : (q : ℕ) → Sim (block graphicHome (zeros (graphicBytes p))) (found p m) first q
       unfolding first graphicBytes
       clear-graphic q =
           rw (all-zeros (found p m .graphic) (graphicBytes p) (found-shape .graphic)) at
           (sim-graphic p v rom r (firstGap p m) (secondGap p m) (found p m) found-shape 0 (zeros (graphicBytes p)) (omega (arith, zeros-length (graphicBytes p), found-shape .graphic)) q)
 
-      clear-text : (s : Shape p (firstGap p m) (secondGap p m) first) (q : ℕ) → Sim (block 0x4000 (zeros (textBytes p))) first second q
+      clear-text : (s : Shape p (firstGap p m) (secondGap p m) first) (q : ℕ) → Sim (block (textHome p) (zeros (textBytes p))) first second q
       unfolding first second textBytes
       clear-text s q =
-          rw (all-zeros (found p m .codes) (textBytes p) (found-shape .codes)) at
+          rw (add-zero, all-zeros (found p m .codes) (textBytes p) (found-shape .codes)) at
           (sim-codes p v rom r (firstGap p m) (secondGap p m) first s 0 (zeros (textBytes p)) (omega (arith, zeros-length (textBytes p), s .codes)) q)
 
-      clear-glyphs : (s : Shape p (firstGap p m) (secondGap p m) second) (q : ℕ) → Sim (block 0xfc00 (zeros 1024)) second (blank p) q
+      clear-glyphs : (s : Shape p (firstGap p m) (secondGap p m) second) (q : ℕ) → Sim (block glyphHome (zeros 1024)) second (blank p) q
       unfolding first second blank found graphicBytes textBytes
       clear-glyphs s q =
           rw (all-zeros (found p m .glyphs) 1024 (found-shape .fits .glyphs)) at
           (sim-glyphs p v rom r (firstGap p m) (secondGap p m) second s 0 (zeros 1024) (omega (arith, zeros-length 1024)) q)
 
-      cleared : Sim (block 0 (zeros (graphicBytes p)) ++ (block 0x4000 (zeros (textBytes p)) ++ block 0xfc00 (zeros 1024))) (found p m) (blank p) (r .bus .pointer)
+      cleared : Sim (block graphicHome (zeros (graphicBytes p)) ++ (block (textHome p) (zeros (textBytes p)) ++ block glyphHome (zeros 1024))) (found p m) (blank p) (r .bus .pointer)
       cleared =
-          let x : Sim (block 0 (zeros (graphicBytes p))) (found p m) first (r .bus .pointer) = clear-graphic (r .bus .pointer) in
-          let y : Sim (block 0x4000 (zeros (textBytes p))) first second (x .last) = clear-text (x .shape) (x .last) in
+          let x : Sim (block graphicHome (zeros (graphicBytes p))) (found p m) first (r .bus .pointer) = clear-graphic (r .bus .pointer) in
+          let y : Sim (block (textHome p) (zeros (textBytes p))) first second (x .last) = clear-text (x .shape) (x .last) in
           sim-both p v rom r (firstGap p m) (secondGap p m) x (sim-both p v rom r (firstGap p m) (secondGap p m) y (clear-glyphs (y .shape) (y .last)))
 
       -- what a whole stream leaves

@@ -24,13 +24,11 @@ use Rattle.book.specs.Operation.{Operation}
 use Rattle.book.specs.Screen.{Screen, screen, refused, screenOf}
 use Rattle.writer.specs.declared.written.Written.{Written}
 use Rattle.writer.specs.Stream.{streamOf, countOf}
-use Rattle.writer.specs.Put.{operationsIn}
 use Rattle.writer.specs.Written.{Wrote, wroteAll, wrote, writeScreen, writeOf}
-use Rattle.writer.proofs.Lengths.{stream-length}
 use Rattle.writer.proofs.Answers.{Streamed, write-accepted}
 use Rattle.picture.specs.Picture.{pictureOf, pictureFrame}
 use Rattle.rehearsal.specs.declared.rehearse.Rehearsed.{Rehearsed}
-use Rattle.rehearsal.specs.Demand3.{holding, Shows}
+use Rattle.rehearsal.specs.Demand3.{Shows}
 use Rattle.rehearsal.specs.Rehearsed.{Rehearsal, rehearsedAll, refusedWith, refusal, shownOf, rehearseScreen, rehearseOf, Outright}
 use Rattle.rehearsal.proofs.Demand3.{holding-length, shows, registers-then}
 
@@ -119,20 +117,30 @@ module _ (p : Panel) (r : Registers) (mem rom book : List ℕ) (number : ℕ) (r
         characters : length rom ≡ 1024
         characters = eqb-true (length rom) 1024 (both-right (eqb (length mem) 65536) _ lent)
 
+        abbrev os : List Operation
+        os = streamed .os
+
+        fits : 2 * countOf p os ≤ length room
+        fits = omega (arith, streamed .fits, streamed .pairs)
+
+        -- the screen has no other operations
+        same : (qs : List Operation) → screenOf p book number ≡ screen qs → os ≡ qs
+        same qs e = let q : screen os ≡ screen qs = sym (streamed .whole) ∙ e in cc
+
         module _ (buffer : List ℕ) {ran : Ran} {m c : List ℕ} (k : ranAll ran m c ≡ runOf p r mem rom (take (2 * w .pairs) after) (w .pairs) buffer) where
-          shown : Shows p (operationsIn (screenOf p book number)) r mem rom buffer (ranAll ran m c)
+          came : ranAll ran m c ≡ runOf p r mem rom (take (2 * countOf p os) (sets room 0 (logOf (streamOf p os)))) (countOf p os) buffer
+          came = k ∙ (λ i. runOf p r mem rom (take (2 * streamed .pairs i) (streamed .holds i)) (streamed .pairs i) buffer)
+
+          shown : Shows p os r mem rom buffer (ranAll ran m c)
           shown =
-              subst (λ (e : RanAll). Shows p (operationsIn (screenOf p book number)) r mem rom buffer e) (sym k)
-              (shows p book number room r mem rom bytes valid size characters streamed buffer (w .pairs) (omega arith))
+              subst (λ (e : RanAll). Shows p os r mem rom buffer e) (sym came)
+              (shows p (streamed .valid) book bytes number (streamed .whole) r mem rom valid size characters buffer (countOf p os) (omega arith) room fits)
 
           module _ {y : Reply} {f : List ℕ} (d : painted y f ≡ paintOf p (ran .registers) m rom frame) where
-            count : w .pairs ≡ countOf p (streamed .os)
-            count = streamed .pairs ∙ stream-length p book number (streamed .whole)
-
             long : length m ≡ 65536
-            long = ap length (shown .memory) ∙ holding-length mem (pictureOf p (operationsIn (screenOf p book number))) ∙ size
+            long = ap length (shown .memory) ∙ holding-length p mem (pictureOf p os) ∙ size
 
-            picture-is : f ≡ pictureFrame p rom (pictureOf p (operationsIn (screenOf p book number))) (r .display .phase)
+            picture-is : f ≡ pictureFrame p rom (pictureOf p os) (r .display .phase)
             picture-is =
                 ap (λ (o : Painted). o .frame)
                 (d
@@ -140,35 +148,28 @@ module _ (p : Panel) (r : Registers) (mem rom book : List ℕ) (number : ℕ) (r
                 (painting-0 p (ran .registers) m rom frame refl refl (both (streamed .valid) (shown .valid)) refl
                 (both (both (eq-eqb (length m) 65536 long) (eq-eqb (length rom) 1024 characters)) (both-right (lentLengths mem rom) _ l)) refl))
                 ∙ shown .frame (ran .registers .display .phase)
-                ∙ ap (pictureFrame p rom (pictureOf p (operationsIn (screenOf p book number)))) (shown .phase)
+                ∙ ap (pictureFrame p rom (pictureOf p os)) (shown .phase)
 
-            same : operationsIn (screenOf p book number) ≡ streamed .os
-            same = ap operationsIn (streamed .whole)
-
-            registers-are : ran .registers ≡ runOf p r mem rom (logOf (streamOf p (streamed .os))) (countOf p (streamed .os)) [] .ran .registers
+            registers-are : ran .registers ≡ runOf p r mem rom (logOf (streamOf p os)) (countOf p os) [] .ran .registers
             registers-are =
-                ap (λ (e : RanAll). e .ran .registers) k
-                ∙ registers-then p book number room r mem rom bytes valid size characters streamed buffer
-                ∙ ap (λ (n : ℕ). runOf p r mem rom (logOf (streamOf p (streamed .os))) n [] .ran .registers) count
+                ap (λ (e : RanAll). e .ran .registers) came
+                ∙ registers-then p (streamed .valid) book bytes number (streamed .whole) r mem rom valid size characters buffer room fits
 
-            is-shown : rehearsedAll (record { number = 0; place = 0; pairs = w .pairs; registers = ran .registers }) m after f ≡ shownOf p r mem rom room frame (streamed .os)
+            is-shown : rehearsedAll (record { number = 0; place = 0; pairs = w .pairs; registers = ran .registers }) m after f ≡ shownOf p r mem rom room frame os
             is-shown =
-                λ i. rehearsedAll (record { number = 0; place = 0; pairs = count i; registers = registers-are i })
-                ((shown .memory ∙ ap (λ (os : List Operation). holding mem (pictureOf p os)) same) i)
-                (streamed .holds i)
-                ((picture-is ∙ ap (λ (os : List Operation). pictureFrame p rom (pictureOf p os) (r .display .phase)) same) i)
+                λ i. rehearsedAll (record { number = 0; place = 0; pairs = streamed .pairs i; registers = registers-are i }) (shown .memory i) (streamed .holds i) (picture-is i)
 
             pub rehearse-0 : Meets (record { number = 0; place = 0; pairs = w .pairs; registers = ran .registers }) m after f
             rehearse-0 = (
               is-shown
                   ∙ sym
-                  (ap (λ (t : Bool). cond t (refusal p r mem rom room frame 12 (countOf p (streamed .os))) (shownOf p r mem rom room frame (streamed .os)))
-                  (le-ltb (length room) (2 * countOf p (streamed .os)) (omega (arith, streamed .fits, count))))
+                  (ap (λ (t : Bool). cond t (refusal p r mem rom room frame 12 (countOf p os)) (shownOf p r mem rom room frame os))
+                  (le-ltb (length room) (2 * countOf p os) fits))
                   ∙ ap (rehearseScreen p r mem rom room frame) (sym (streamed .whole))
                   ∙ inner true l,
               record {
-                picture = λ e. picture-is;
-                pairs = λ e. count ∙ ap (countOf p) (sym same);
+                picture = λ z qs e. picture-is ∙ ap (λ (xs : List Operation). pictureFrame p rom (pictureOf p xs) (r .display .phase)) (same qs e);
+                pairs = λ z qs e. streamed .pairs ∙ ap (countOf p) (same qs e);
                 outside = λ i e. shown .outside i e;
               },
             )

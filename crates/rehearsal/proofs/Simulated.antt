@@ -33,6 +33,7 @@ use Rattle.book.specs.Operation.{Operation, dot, cursor, combine, operationOf, 
 use Rattle.book.specs.Range.{DotRange, CursorRange, InRange, ByteSized}
 use Rattle.book.specs.Screen.{screen, operationsFrom}
 use Rattle.book.proofs.Walking.{walk-all}
+use Rattle.writer.specs.Homes.{graphicHome, textHome, glyphHome}
 use Rattle.writer.specs.Stream.{pointTo, block, rowBlocks, combinationCode, operationPairs, bodyPairs}
 use Rattle.writer.proofs.Lengths.{part-length}
 use Rattle.writer.proofs.Places.{bit-few, some-width, columns-few, lines-few}
@@ -60,7 +61,7 @@ planeAt home p = record { home = home; area = p .columns }
 -- the display group that shows a picture; d has what a screen leaves alone
 unfoldable pub displayFor : Panel → Display → Picture → Display
 displayFor p d a =
-    plain (planeAt 0x4000 p) (planeAt 0 p) 0x1f (a .combination) (cursorOn (a .cursor)) (cursorBlinks (a .cursor)) (cursorIn (d .cursor) (a .cursor)) (d .phase)
+    plain (planeAt (textHome p) p) (planeAt graphicHome p) 0x1f (a .combination) (cursorOn (a .cursor)) (cursorBlinks (a .cursor)) (cursorIn (d .cursor) (a .cursor)) (d .phase)
 
 -- the machine that shows a picture, at rest, with this pointer
 abbrev pub machineFor : Panel → Registers → List ℕ → List ℕ → Picture → ℕ → Machine
@@ -69,7 +70,7 @@ machineFor p r g h a pointer =
 
 -- planes of the panel's lengths, no attributes
 pub record Shape (p : Panel) (g h : List ℕ) (a : Picture) : Type 0 where
-  pub fits : Fits g h (a .graphic) (a .codes) (a .glyphs)
+  pub fits : Fits (textHome p) g h (a .graphic) (a .codes) (a .glyphs)
   pub graphic : length (a .graphic) ≡ 8 * p .lines * p .columns
   pub codes : length (a .codes) ≡ p .lines * p .columns
   pub plain : isAttribute (a .combination) ≡ false
@@ -122,23 +123,23 @@ module _ (p : Panel) (v : validPanel p ≡ true) (rom : List ℕ) (r : Registers
 
   module _ (a : Picture) (s : Shape p g h a) where
     pub sim-graphic : (i : ℕ) (vs : List ℕ) → i + length vs ≤ length (a .graphic) → (q : ℕ)
-        → Sim (block (0 + i) vs) a (withPlanes a (sets (a .graphic) i vs) (a .codes) (a .glyphs)) q
+        → Sim (block (graphicHome + i) vs) a (withPlanes a (sets (a .graphic) i vs) (a .codes) (a .glyphs)) q
     sim-graphic i vs l q =
-        sim-block (0 + i) vs a (sets (a .graphic) i vs) (a .codes) (a .glyphs)
-        (ap (λ (n : ℕ). stored (laid g h (a .graphic) (a .codes) (a .glyphs)) n vs) (let e : 0 + i ≡ i = omega arith in e) ∙ store-graphic g h (a .graphic) (a .codes) (a .glyphs) (s .fits) i vs l)
+        sim-block (graphicHome + i) vs a (sets (a .graphic) i vs) (a .codes) (a .glyphs)
+        (ap (λ (n : ℕ). stored (laid g h (a .graphic) (a .codes) (a .glyphs)) n vs) (let e : graphicHome + i ≡ i = omega arith in e) ∙ store-graphic g h (a .graphic) (a .codes) (a .glyphs) (s .fits) i vs l)
         (shape-planes s _ _ _ (length-sets (a .graphic) i vs) refl refl) q
 
     pub sim-codes : (i : ℕ) (vs : List ℕ) → i + length vs ≤ length (a .codes) → (q : ℕ)
-        → Sim (block (0x4000 + i) vs) a (withPlanes a (a .graphic) (sets (a .codes) i vs) (a .glyphs)) q
+        → Sim (block (textHome p + i) vs) a (withPlanes a (a .graphic) (sets (a .codes) i vs) (a .glyphs)) q
     sim-codes i vs l q =
-        sim-block (0x4000 + i) vs a (a .graphic) (sets (a .codes) i vs) (a .glyphs)
+        sim-block (textHome p + i) vs a (a .graphic) (sets (a .codes) i vs) (a .glyphs)
         (store-text g h (a .graphic) (a .codes) (a .glyphs) (s .fits) i vs l)
         (shape-planes s _ _ _ refl (length-sets (a .codes) i vs) refl) q
 
     pub sim-glyphs : (i : ℕ) (vs : List ℕ) → i + length vs ≤ 1024 → (q : ℕ)
-        → Sim (block (0xfc00 + i) vs) a (withPlanes a (a .graphic) (a .codes) (sets (a .glyphs) i vs)) q
+        → Sim (block (glyphHome + i) vs) a (withPlanes a (a .graphic) (a .codes) (sets (a .glyphs) i vs)) q
     sim-glyphs i vs l q =
-        sim-block (0xfc00 + i) vs a (a .graphic) (a .codes) (sets (a .glyphs) i vs)
+        sim-block (glyphHome + i) vs a (a .graphic) (a .codes) (sets (a .glyphs) i vs)
         (store-glyphs g h (a .graphic) (a .codes) (a .glyphs) (s .fits) i vs l)
         (shape-planes s _ _ _ refl refl (length-sets (a .glyphs) i vs)) q
 
@@ -154,7 +155,7 @@ module _ (p : Panel) (v : validPanel p ≡ true) (rom : List ℕ) (r : Registers
           run = subst
               (λ (t : Machine). Takes (stepOf p rom) (operationPairs p (cursor line column height blink)) (machineFor p r g h a q) t)
               (λ i. resting
-              (plain (planeAt 0x4000 p) (planeAt 0 p) 0x1f (a .combination) true blink (record { x = x i; y = y i; height = height }) (r .display .phase))
+              (plain (planeAt (textHome p) p) (planeAt graphicHome p) 0x1f (a .combination) true blink (record { x = x i; y = y i; height = height }) (r .display .phase))
               q (r .bus .latch) (r .bus .error) m)
               (takes-both (word-taken p rom _ q (r .bus .latch) (r .bus .error) m target.Cursor 0x21 column line refl)
               (takes-both (height-taken p rom _ q (r .bus .latch) (r .bus .error) m (0xa0 + (height - 1)) (decode-height height (k .some) (k .few)))
@@ -185,7 +186,7 @@ module _ (p : Panel) (v : validPanel p ≡ true) (rom : List ℕ) (r : Registers
         let m : List ℕ = laid g h (a .graphic) (a .codes) (a .glyphs) in
         let column : x / p .width < p .columns = div-lt-iff-lt-mul (some-width p v) .1 (k .across) in
         let l : i < length (a .graphic) = omega (arith, s .graphic, mul-le-mul-right (p .columns) (k .down)) in
-        let w : wordOf ((0 + i) % 256) ((0 + i) / 256) ≡ i = omega arith in
+        let w : wordOf ((graphicHome + i) % 256) ((graphicHome + i) / 256) ≡ i = omega arith in
         let n : (cond on 8 0 + b) % 8 ≡ b = low on b (bit-few p v x) in
         record {
           last = i;
@@ -195,8 +196,8 @@ module _ (p : Panel) (v : validPanel p ≡ true) (rom : List ℕ) (r : Registers
               ∙ (λ j. resting (displayFor p (r .display) a) i (r .bus .latch) (r .bus .error)
               ((ap (λ (c : ℕ). set m i (withBit c b on)) (graphic-at g h (a .graphic) (a .codes) (a .glyphs) (s .fits) i l)
               ∙ set-graphic g h (a .graphic) (a .codes) (a .glyphs) (s .fits) i (withBit (getD (a .graphic) i 0) b on) l) j)))
-              (takes-both (word-taken p rom _ q (r .bus .latch) (r .bus .error) m target.Pointer 0x24 ((0 + i) % 256) ((0 + i) / 256) refl)
-              (bit-taken p rom _ (wordOf ((0 + i) % 256) ((0 + i) / 256)) (r .bus .latch) (r .bus .error) m (cond on 0xf8 0xf0 + b) (decode-bit on b (bit-few p v x))));
+              (takes-both (word-taken p rom _ q (r .bus .latch) (r .bus .error) m target.Pointer 0x24 ((graphicHome + i) % 256) ((graphicHome + i) / 256) refl)
+              (bit-taken p rom _ (wordOf ((graphicHome + i) % 256) ((graphicHome + i) / 256)) (r .bus .latch) (r .bus .error) m (cond on 0xf8 0xf0 + b) (decode-bit on b (bit-few p v x))));
           shape = shape-planes s _ _ _ (length-set (a .graphic) i _) refl refl;
         }
       where
@@ -209,7 +210,7 @@ module _ (p : Panel) (v : validPanel p ≡ true) (rom : List ℕ) (r : Registers
   unfolding rowBlocks filled
   sim-rows zero top column width value down across a s q = sim-none s q
   sim-rows (suc height) top column width value down across a s q =
-      let row : Sim (block (0 + (top * p .columns + column)) (replicate width value)) a (withPlanes a (sets (a .graphic) (top * p .columns + column) (replicate width value)) (a .codes) (a .glyphs)) q
+      let row : Sim (block (graphicHome + (top * p .columns + column)) (replicate width value)) a (withPlanes a (sets (a .graphic) (top * p .columns + column) (replicate width value)) (a .codes) (a .glyphs)) q
       = sim-graphic a s (top * p .columns + column) (replicate width value)
       (omega (arith, length-replicate width value, s .graphic, mul-le-mul-right (p .columns) (let t : top < 8 * p .lines = omega arith in t))) q in
       sim-both row

@@ -14,7 +14,6 @@ use Rattle.controller.specs.Run.{logOf, runOf}
 use Rattle.book.specs.Operation.{Operation}
 use Rattle.book.specs.Screen.{Screen, screen, refused, screenOf}
 use Rattle.writer.specs.Stream.{streamOf, countOf}
-use Rattle.writer.specs.Put.{operationsIn}
 use Rattle.picture.specs.Picture.{pictureOf, pictureFrame}
 use Rattle.rehearsal.specs.declared.rehearse.Rehearsed.{Rehearsed}
 use Rattle.rehearsal.specs.Demand3.{inAreas, holding}
@@ -47,7 +46,7 @@ module _ (p : Panel) (r : Registers) (mem rom room frame : List ℕ) where
         pairs = countOf p os;
         registers = runOf p r mem rom (logOf (streamOf p os)) (countOf p os) [] .ran .registers;
       })
-      (holding mem (pictureOf p os))
+      (holding p mem (pictureOf p os))
       (sets room 0 (logOf (streamOf p os)))
       (pictureFrame p rom (pictureOf p os) (r .display .phase))
 
@@ -65,10 +64,10 @@ rehearseOf p r mem rom book number room frame =
     (refusal p r mem rom room frame 2 0))
     (refusal p r mem rom room frame 1 0)
 
--- demand 3 outright
+-- demand 3 outright, for the operations that the screen has
 pub record Outright (p : Panel) (r : Registers) (mem rom book : List ℕ) (number : ℕ) (x : Rehearsed) (memory frame : List ℕ) : Type 0 where
   -- accepted: the frame is the picture in the machine's phase, the pairs are those stated
-  pub picture : x .number ≡ 0 → frame ≡ pictureFrame p rom (pictureOf p (operationsIn (screenOf p book number))) (r .display .phase)
-  pub pairs : x .number ≡ 0 → x .pairs ≡ countOf p (operationsIn (screenOf p book number))
+  pub picture : x .number ≡ 0 → (os : List Operation) → screenOf p book number ≡ screen os → frame ≡ pictureFrame p rom (pictureOf p os) (r .display .phase)
+  pub pairs : x .number ≡ 0 → (os : List Operation) → screenOf p book number ≡ screen os → x .pairs ≡ countOf p os
   -- accepted or not: memory outside the areas is as it was
   pub outside : (i : ℕ) → inAreas p i ≡ false → getD memory i 0 ≡ getD mem i 0

@@ -23,7 +23,7 @@ use Rattle.writer.specs.declared.written.Written.{Written}
 use Rattle.writer.specs.Stream.{opening, bodyPairs, streamOf, countOf}
 use Rattle.writer.specs.Written.{Wrote, wrote, wroteAll, writeScreen, writeOf}
 use Rattle.writer.specs.Put.{Put, operationsIn, Sound}
-use Rattle.writer.proofs.Lengths.{opening-length, stream-length}
+use Rattle.writer.proofs.Lengths.{opening-length}
 use Rattle.writer.proofs.Places.{cells-few}
 use Rattle.writer.proofs.Puts.{put-both, put-length}
 
@@ -91,7 +91,7 @@ pub record Streamed (p : Panel) (book : List ℕ) (number : ℕ) (room : List �
   pub os : List Operation
   pub whole : screenOf p book number ≡ screen os
   pub place : r .place ≡ 0
-  pub pairs : r .pairs ≡ length (streamOf p os)
+  pub pairs : r .pairs ≡ countOf p os
   pub few : r .pairs ≤ 400000000
   pub fits : 2 * r .pairs ≤ length room
   pub holds : after ≡ sets room 0 (logOf (streamOf p os))
@@ -113,11 +113,21 @@ module _ (p : Panel) (book : List ℕ) (number : ℕ) (room : List ℕ) where
         os = k .os;
         whole = k .whole;
         place = ap (λ (o : Wrote). o .written .place) h;
-        pairs = i ∙ total-is p book number refl z ∙ sym (stream-length p book number (k .whole));
+        pairs = i ∙ total-is p book number refl z;
         few = omega (arith, total-few p book number refl z);
         fits = omega (arith, ltb-false (length room) (2 * total p book number refl z) e);
         holds = ap (λ (o : Wrote). o .room) h;
       }
+
+  -- a valid panel, a well-formed screen and enough room: accepted
+  pub write-fits : validPanel p ≡ true → {os : List Operation} → screenOf p book number ≡ screen os → 2 * countOf p os ≤ length room
+      → writeOf p book number room ≡ wrote 0 0 (countOf p os) (sets room 0 (logOf (streamOf p os)))
+  unfolding writeOf
+  write-fits v {os} e l =
+      ap (λ (t : Bool). cond t (writeScreen p room (screenOf p book number)) (wrote 1 0 0 room)) v
+      ∙ ap (writeScreen p room) e
+      ∙ ap (λ (t : Bool). cond t (wrote 12 (countOf p os) 0 room) (wrote 0 0 (countOf p os) (sets room 0 (logOf (streamOf p os)))))
+      (le-ltb (length room) (2 * countOf p os) l)
 
   -- number 0
   pub write-accepted : {r : Written} {after : List ℕ} → wroteAll r after ≡ writeOf p book number room → r .number ≡ 0 → Streamed p book number room r after

@@ -17,6 +17,7 @@ use Rattle.book.specs.Range.{InRange}
 use Rattle.book.specs.Screen.{screen, operationsFrom, screenIn, screenOf}
 use Rattle.contents.specs.Asked.{askedOf}
 use Rattle.book.proofs.Walking.{walk-all}
+use Rattle.writer.specs.Counts.{Counts}
 use Rattle.writer.specs.Stream.{datum, code, pointTo, block, setUp, opening, rowBlocks, operationPairs, bodyPairs, streamOf, countOf}
 
 pub data-length : (bytes : List ℕ) → length (map datum bytes) ≡ length bytes
@@ -73,3 +74,18 @@ stream-length p book number {os} h =
     go : (a : Asked) → screenIn p book a ≡ screen os → length (bodyPairs p os) ≡ bodyCount os
     go (Body start end) h = body-length p book end (end - start) start h
     go (Refused n place) h = let z : _≡_ {A = ℕ} 0 1 = cc in absurd (let y : ⊥ = omega arith in y)
+
+-- the counts of document 01
+pub pair-counts : (p : Panel) → Counts p
+unfolding operationPairs pointTo
+pair-counts p =
+    record {
+      of-opening = opening-length p;
+      of-text = λ line column codes. block-length _ codes;
+      of-rectangle = λ top column height width value. rows-length p top column height width value;
+      of-dot = λ x y on. refl;
+      of-glyph = λ code rows e. block-length _ rows ∙ ap (λ (m : ℕ). m + 5) e;
+      of-cursor = λ line column height blink. refl;
+      of-combination = λ k. refl;
+      of-screen = λ book number os e. stream-length p book number e;
+    }

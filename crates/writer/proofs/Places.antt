@@ -1,7 +1,6 @@
 -- Where an operation in range lies in its area, and which bit of its byte a dot is.
 use mathlib.Core.Path.{_≡_}
 use mathlib.Core.Bool.{true}
-use mathlib.Core.List.{List}
 use mathlib.Core.Logic.{⊎-elim}
 use Prim.Native.Nat.{ℕ, _+_, _-_, _*_, _/_, _%_, _≤_, _<_}
 use native.Mathlib.Nat.{mul-le-mul, mod-lt, div-lt-iff-lt-mul}
@@ -10,7 +9,7 @@ use Rattle.state.specs.declared.panel.Panel.{Panel}
 use Rattle.state.specs.State.{validPanel}
 use Rattle.state.proofs.Valid.{panelled, narrow}
 use Rattle.book.specs.Operation.{dotByte, dotBit}
-use Rattle.book.specs.Range.{TextRange, RectangleRange, DotRange}
+use Rattle.book.specs.Range.{RectangleRange, DotRange}
 
 module _ (p : Panel) (v : validPanel p ≡ true) where
   pub cells-few : p .lines * p .columns ≤ 1280
@@ -25,10 +24,6 @@ module _ (p : Panel) (v : validPanel p ≡ true) where
   -- the byte of a row and column
   byte-few : (row column : ℕ) → row < 128 → column < 80 → row * p .columns + column < 10240
   byte-few row column h k = omega (arith, mul-le-mul {n₁ = row} {m₁ = p .columns} {n₂ = 127} {m₂ = 80} (omega arith) columns-few)
-
-  pub text-place : {book : List ℕ} {line column from n : ℕ} → TextRange p book line column from n → line * p .columns + column < 10240
-  text-place {line = line} {column} k =
-      byte-few line column (omega (arith, k .down, lines-few)) (omega (arith, k .across, k .some, columns-few))
 
   pub row-place : {top column height width : ℕ} → RectangleRange p top column height width → (i : ℕ) → i < height → (top + i) * p .columns + column < 10240
   row-place {top} {column} k i h =

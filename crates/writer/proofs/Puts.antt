@@ -47,6 +47,14 @@ put-block at bytes x y z w = put-both x (put-both y (put-both z w))
 pub put-as : {a b : List ℕ} {i e k l : ℕ} → k ≡ l → Put a i (code k ∷ []) b e → Put a i (code l ∷ []) b e
 put-as h x = rw h at x
 
+-- a word or an address that was computed
+pub put-word-as : {a b : List ℕ} {i e k l n : ℕ} → k ≡ l
+    → Put a i (datum (k % 256) ∷ datum (k / 256) ∷ code n ∷ []) b e → Put a i (datum (l % 256) ∷ datum (l / 256) ∷ code n ∷ []) b e
+put-word-as h x = rw h at x
+
+pub put-block-as : {a b : List ℕ} {i e k l : ℕ} (bytes : List ℕ) → k ≡ l → Put a i (block k bytes) b e → Put a i (block l bytes) b e
+put-block-as bytes h x = rw h at x
+
 module _ (p : Panel) where
   put-zeros : {a b : List ℕ} {i e : ℕ} (at n : ℕ) → Put a i (block at (replicate n 0)) b e → Put a i (block at (zeros n)) b e
   unfolding zeros
@@ -54,11 +62,11 @@ module _ (p : Panel) where
 
   -- the registers set, three areas cleared
   pub put-opening : {a b c d e : List ℕ} {i j k l m : ℕ} → Put a i (setUp p) b j → Put b j (block graphicHome (replicate (8 * (p .lines * p .columns)) 0)) c k
-      → Put c k (block textHome (replicate (p .lines * p .columns) 0)) d l → Put d l (block glyphHome (replicate 1024 0)) e m → Put a i (opening p) e m
+      → Put c k (block (textHome p) (replicate (p .lines * p .columns) 0)) d l → Put d l (block glyphHome (replicate 1024 0)) e m → Put a i (opening p) e m
   unfolding opening
   put-opening x y z w =
       let e : 8 * (p .lines * p .columns) ≡ 8 * p .lines * p .columns = omega (arith, mul-assoc 8 (p .lines) (p .columns)) in
-      put-both x (put-both (rw e at (put-zeros graphicHome (8 * (p .lines * p .columns)) y)) (put-both (put-zeros textHome (p .lines * p .columns) z) (put-zeros glyphHome 1024 w)))
+      put-both x (put-both (rw e at (put-zeros graphicHome (8 * (p .lines * p .columns)) y)) (put-both (put-zeros (textHome p) (p .lines * p .columns) z) (put-zeros glyphHome 1024 w)))
 
 -- with qs still to be put at w, the room b comes to the room a with all of ps
 pub record Putting (a : List ℕ) (at : ℕ) (ps : List Pair) (b : List ℕ) (w : ℕ) (qs : List Pair) : Type 0 where

@@ -1,4 +1,5 @@
+pub mod Homes
 pub mod Stream
+pub mod Counts
 pub mod Written
 pub mod Put
-pub mod BenchPoints

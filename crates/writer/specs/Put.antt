@@ -1,7 +1,7 @@
 -- Pairs put into a room at a place.
 use mathlib.Core.Path.{_≡_}
 use mathlib.Core.Bool.{true}
-use mathlib.Core.List.{List, [], _∷_}
+use mathlib.Core.List.{List, []}
 use Prim.Native.Nat.{ℕ, _+_, _-_, _*_, _≤_}
 use lib.ListN.{length}
 use lib.Seq.{sets}
@@ -11,7 +11,6 @@ use Rattle.controller.specs.Access.{Pair}
 use Rattle.controller.specs.Run.{logOf}
 use Rattle.book.specs.Operation.{Operation, bodyCount}
 use Rattle.book.specs.Screen.{Screen, screen, refused, operationsFrom}
-use Rattle.writer.specs.Stream.{datum, code}
 
 -- b is the room a with the pairs from byte i on, unchanged elsewhere, and e the byte behind them
 pub record Put (a : List ℕ) (i : ℕ) (ps : List Pair) (b : List ℕ) (e : ℕ) : Type 0 where
@@ -21,15 +20,6 @@ pub record Put (a : List ℕ) (i : ℕ) (ps : List Pair) (b : List ℕ) (e : ℕ
 -- room for n pairs from byte i on
 abbrev pub RoomFor : ℕ → ℕ → List ℕ → Type 0
 RoomFor n i room = i + 2 * n ≤ length room
-
--- text home, text area, graphic home, graphic area
-abbrev pub planePairs : ℕ → List Pair
-planePairs columns =
-    datum 0x00 ∷ datum 0x40 ∷ code 0x40
-    ∷ datum columns ∷ datum 0x00 ∷ code 0x41
-    ∷ datum 0x00 ∷ datum 0x00 ∷ code 0x42
-    ∷ datum columns ∷ datum 0x00 ∷ code 0x43
-    ∷ []
 
 -- a valid panel, an operation in its range, and room for its pairs
 pub record Ready (p : Panel) (Range : Type 0) (n at : ℕ) (room : List ℕ) : Type 0 where

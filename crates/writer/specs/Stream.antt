@@ -8,6 +8,7 @@ use Rattle.state.specs.declared.panel.Panel.{Panel}
 use Rattle.state.specs.declared.registers.Combination.{Combination}
 use Rattle.state.specs.declared.registers.Combination.the-variants.{Or, Exor, And, Attribute}
 pub use Rattle.controller.specs.Access.{Pair, datum, code}
+pub use Rattle.writer.specs.Homes.{graphicHome, textHome, glyphHome}
 use Rattle.book.specs.Operation.{Operation, text, rectangle, dot, glyph, cursor, combine, bodyCount, dotByte, dotBit}
 
 -- pointer set
@@ -18,35 +19,31 @@ pointTo at = datum (at % 256) ∷ datum (at / 256) ∷ code 0x24 ∷ []
 unfoldable pub block : ℕ → List ℕ → List Pair
 block at bytes = pointTo at ++ (code 0xb0 ∷ (map datum bytes ++ (code 0xb2 ∷ [])))
 
--- the areas cleared begin here
-abbrev pub graphicHome : ℕ
-graphicHome = 0
+-- text home, text area C, graphic home, graphic area C, ignored data 00H
+abbrev pub planePairs : Panel → List Pair
+planePairs p =
+    datum (textHome p % 256) ∷ datum (textHome p / 256) ∷ code 0x40
+    ∷ datum (p .columns) ∷ datum 0x00 ∷ code 0x41
+    ∷ datum (graphicHome % 256) ∷ datum (graphicHome / 256) ∷ code 0x42
+    ∷ datum (p .columns) ∷ datum 0x00 ∷ code 0x43
+    ∷ []
 
-abbrev pub textHome : ℕ
-textHome = 0x4000
-
-abbrev pub glyphHome : ℕ
-glyphHome = 0xfc00
-
--- B2H; text home, text area C, graphic home, graphic area C, offset 1FH, ignored data 00H; 80H; 9CH
+-- B2H; the planes; offset 1FH; 80H; 9CH
 unfoldable pub setUp : Panel → List Pair
 setUp p =
     code 0xb2
-    ∷ datum 0x00 ∷ datum 0x40 ∷ code 0x40
-    ∷ datum (p .columns) ∷ datum 0x00 ∷ code 0x41
-    ∷ datum 0x00 ∷ datum 0x00 ∷ code 0x42
-    ∷ datum (p .columns) ∷ datum 0x00 ∷ code 0x43
-    ∷ datum 0x1f ∷ datum 0x00 ∷ code 0x22
+    ∷ (planePairs p
+    ++ (datum 0x1f ∷ datum 0x00 ∷ code 0x22
     ∷ code 0x80
     ∷ code 0x9c
-    ∷ []
+    ∷ []))
 
 -- then graphic area, text area and glyphs cleared
 unfoldable pub opening : Panel → List Pair
 opening p =
     setUp p
     ++ (block graphicHome (zeros (8 * p .lines * p .columns))
-    ++ (block textHome (zeros (p .lines * p .columns))
+    ++ (block (textHome p) (zeros (p .lines * p .columns))
     ++ block glyphHome (zeros 1024)))
 
 -- 80H, 81H, 83H
@@ -66,7 +63,7 @@ rowBlocks p top column (suc height) width value =
 -- a text, each row of operation 2 and a glyph are blocks; 3: pointer set, then F0H or F8H plus w-1-(x mod w);
 -- 5: 21H with its data, A0H plus height-1, 9EH or 9FH; 6: its code
 unfoldable pub operationPairs : Panel → Operation → List Pair
-operationPairs p (text line column codes) = block (textHome + (line * p .columns + column)) codes
+operationPairs p (text line column codes) = block (textHome p + (line * p .columns + column)) codes
 operationPairs p (rectangle top column height width value) = rowBlocks p top column height width value
 operationPairs p (dot x y on) =
     pointTo (graphicHome + dotByte p x y) ++ (code (cond on 0xf8 0xf0 + dotBit p x) ∷ [])

@@ -3,9 +3,10 @@ ghost use mathlib.Core.Path.{_≡_};
 ghost use mathlib.Core.Bool.{true};
 ghost use Prim.Native.Nat.{_+_, _*_};
 ghost use Rattle.state.specs.State.{validPanel};
-ghost use Rattle.writer.specs.Stream.{setUp, opening};
-ghost use Rattle.writer.specs.Put.{Put, RoomFor, planePairs};
+ghost use Rattle.writer.specs.Stream.{planePairs, setUp, opening};
+ghost use Rattle.writer.specs.Put.{Put, RoomFor};
 use super::homes::Homes;
+use super::homes::text_home;
 use super::put::put_code;
 use super::put::put_run;
 use super::put::put_two;
@@ -13,11 +14,13 @@ use super::put::put_word;
 use state::panel::Panel;
 
 // Text home and area, graphic home and area.
-fn put_planes(room: &mut [u8], at: usize, columns: u8) -> usize
+fn put_planes(room: &mut [u8], at: usize, panel: Panel) -> usize
+    requires { ⌜ validPanel panel ≡ true ⌝ }
     requires { ⌜ RoomFor 12 at (now room) ⌝ }
-    ensures { λ r. ⌜ Put (now (room .entry)) at (planePairs columns) (now (room .exit)) r ⌝ }
+    ensures { λ r. ⌜ Put (now (room .entry)) at (planePairs panel) (now (room .exit)) r ⌝ }
 {
-    let a = put_word(room, at, Homes::TEXT, 0x40);
+    let columns = panel.columns as u8;
+    let a = put_word(room, at, text_home(panel), 0x40);
     let b = put_two(room, a, columns, 0, 0x41);
     let c = put_word(room, b, Homes::GRAPHIC, 0x42);
     put_two(room, c, columns, 0, 0x43)
@@ -30,7 +33,7 @@ fn put_set_up(room: &mut [u8], at: usize, panel: Panel) -> usize
     ensures { λ r. ⌜ Put (now (room .entry)) at (setUp panel) (now (room .exit)) r ⌝ }
 {
     let a = put_code(room, at, 0xb2);
-    let b = put_planes(room, a, panel.columns as u8);
+    let b = put_planes(room, a, panel);
     let c = put_two(room, b, 0x1f, 0, 0x22);
     let d = put_code(room, c, 0x80);
     put_code(room, d, 0x9c)
@@ -44,6 +47,6 @@ pub(crate) fn put_opening(room: &mut [u8], at: usize, panel: Panel) -> usize
     let cells = panel.lines * panel.columns;
     let a = put_set_up(room, at, panel);
     let b = put_run(room, a, Homes::GRAPHIC, 0, 8 * cells);
-    let c = put_run(room, b, Homes::TEXT, 0, cells);
+    let c = put_run(room, b, text_home(panel), 0, cells);
     put_run(room, c, Homes::GLYPHS, 0, 1024)
 }

@@ -12,6 +12,7 @@ ghost use Rattle.book.specs.Screen.{operationsFrom};
 ghost use Rattle.writer.specs.Stream.{datum, code, block, glyphHome, rowBlocks, combinationCode, operationPairs, bodyPairs};
 ghost use Rattle.writer.specs.Put.{Put, RoomFor, operationsIn, Ready, Sound};
 use super::homes::Homes;
+use super::homes::text_home;
 use super::put::put_block;
 use super::put::put_code;
 use super::put::put_run;
@@ -38,7 +39,7 @@ fn put_text(
     ensures { λ r. ⌜ Put (now (room .entry)) at (operationPairs panel (text line column (take n (drop from (now (book .entry)))))) (now (room .exit)) r ⌝ }
 {
     let cell = line * panel.columns + column;
-    put_block(room, at, Homes::TEXT + cell as u16, book, from, n)
+    put_block(room, at, text_home(panel) + cell as u16, book, from, n)
 }
 
 // Operation 2, row by row.

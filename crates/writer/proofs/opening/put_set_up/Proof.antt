@@ -1,17 +1,12 @@
 -- `put_set_up` meets its contract: its parts, one after the other.
 use Rattle.writer.specs.Stream.{setUp}
 use Rattle.writer.proofs.Puts.{put-both}
-use Rattle.writer.proofs.Places.{columns-few}
 use borrow.Author.Needs.{needs}
-use native.Mathlib.Omega.{arith}
 use Rattle.writer.proofs.opening.put_set_up.Statement.{statement}
 use Rattle.writer.proofs.opening.put_set_up.Tie as tie
 
 put-code-requires : tie.Need-put-code-requires
 put-code-requires c κs = search needs
-
-cast-put-planes : tie.Need-cast-put-planes
-cast-put-planes c = omega (arith, columns-few (c .before .before .before .before .before .before .before .args .panel) (c .before .before .before .before .before .before .before .pre .0))
 
 put-planes-requires : tie.Need-put-planes-requires
 put-planes-requires c κs = search needs
@@ -30,14 +25,13 @@ same-length c = search needs
 
 returns : tie.Need-returns
 unfolding setUp
-returns c = put-both (c .before .before .before .before .before .before .before .before .before .before .before .before .before .before .before .before .before .before .before .put-code .ensures) (put-both (c .before .before .before .before .before .before .before .before .before .before .before .before .before .before .put-planes .ensures) (put-both (c .before .before .before .before .before .before .before .before .before .before .put-two .ensures) (put-both (c .before .before .before .before .before .before .put-code2 .ensures) (c .before .before .put-code3 .ensures))))
+returns c = put-both (c .before .before .before .before .before .before .before .before .before .before .before .before .before .before .before .before .before .before .put-code .ensures) (put-both (c .before .before .before .before .before .before .before .before .before .before .before .before .before .before .put-planes .ensures) (put-both (c .before .before .before .before .before .before .before .before .before .before .put-two .ensures) (put-both (c .before .before .before .before .before .before .put-code2 .ensures) (c .before .before .put-code3 .ensures))))
 
 pub put-set-up-spec : {M : Type 1} → statement M
 put-set-up-spec =
     tie.close
     (tie.spec
     put-code-requires
-    cast-put-planes
     put-planes-requires
     put-two-requires
     put-code-requires-2

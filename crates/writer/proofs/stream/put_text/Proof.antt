@@ -1,6 +1,9 @@
 -- `put_text` meets its contract: one block.
+use mathlib.Core.Path.{ap}
+use Prim.Native.Nat.{ℕ, _+_, _*_}
 use Rattle.writer.specs.Stream.{operationPairs}
-use Rattle.writer.proofs.Places.{text-place}
+use Rattle.writer.proofs.Apart.{text-place}
+use Rattle.writer.proofs.Puts.{put-block-as}
 use borrow.Author.Needs.{needs}
 use native.Mathlib.Omega.{arith}
 use Rattle.writer.proofs.stream.put_text.Statement.{statement}
@@ -12,11 +15,14 @@ mul-cell c = let s = c .before .before .before in omega (arith, text-place (s .a
 add-cell : tie.Need-add-cell
 add-cell c = let s = c .before .before .before in omega (arith, text-place (s .args .panel) (s .pre .valid) (s .pre .range))
 
+text-home-requires : tie.Need-text-home-requires
+text-home-requires c κs = search needs
+
 cast-put-block : tie.Need-cast-put-block
-cast-put-block c = let s = c .before .before .before .before in omega (arith, text-place (s .args .panel) (s .pre .valid) (s .pre .range))
+cast-put-block c = let s = c .before .before .before .before .before in omega (arith, text-place (s .args .panel) (s .pre .valid) (s .pre .range))
 
 add-put-block : tie.Need-add-put-block
-add-put-block c = let s = c .before .before .before .before in omega (arith, text-place (s .args .panel) (s .pre .valid) (s .pre .range))
+add-put-block c = let s = c .before .before .before .before .before in omega (arith, text-place (s .args .panel) (s .pre .valid) (s .pre .range), c .text-home .ensures)
 
 put-block-requires : tie.Need-put-block-requires
 put-block-requires c κs = search needs
@@ -26,7 +32,7 @@ same-length c = search needs
 
 returns : tie.Need-returns
 unfolding operationPairs
-returns c = c .before .before .put-block .ensures
+returns c = let a = c .before .before .before .before .before .before .before .before .args in put-block-as _ (ap (λ (n : ℕ). n + (a .line * a .panel .columns + a .column)) (c .before .before .before .text-home .ensures)) (c .before .before .put-block .ensures)
 
 pub put-text-spec : {M : Type 1} → statement M
 put-text-spec =
@@ -34,6 +40,7 @@ put-text-spec =
     (tie.spec
     mul-cell
     add-cell
+    text-home-requires
     cast-put-block
     add-put-block
     put-block-requires
