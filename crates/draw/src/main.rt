@@ -3,7 +3,6 @@
 ghost use mathlib.Core.Path.{_≡_};
 ghost use Prim.Native.Nat.{_≤_};
 ghost use lib.ListN.{length};
-use state::panel::Panel;
 use libc::STDIN_FILENO;
 use libc::STDOUT_FILENO;
 use picture::draw::draw;
@@ -13,6 +12,7 @@ use printed::input::panel_in;
 use printed::input::rest_in;
 use printed::screen::frame_bytes;
 use printed::screen::print_picture;
+use state::panel::Panel;
 
 // A panel's cells; one that is not valid is refused before they count.
 fn cells(panel: Panel) -> usize

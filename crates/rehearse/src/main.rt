@@ -3,7 +3,6 @@
 ghost use mathlib.Core.Path.{_≡_};
 ghost use Prim.Native.Nat.{_≤_};
 ghost use lib.ListN.{length};
-use state::registers::Registers;
 use libc::STDIN_FILENO;
 use libc::STDOUT_FILENO;
 use printed::fill::fill_characters;
@@ -13,6 +12,7 @@ use printed::input::rest_in;
 use printed::screen::frame_bytes;
 use printed::screen::print_rehearsal;
 use rehearsal::rehearse::rehearse;
+use state::registers::Registers;
 
 // Room for 1,048,576 pairs. The `ensures` gives only the length.
 fn empty_room() -> [u8; 2097152]

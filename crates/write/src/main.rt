@@ -2,7 +2,6 @@
 // to standard error its refusal.
 ghost use mathlib.Core.Path.{_≡_};
 ghost use lib.ListN.{length};
-use state::panel::Panel;
 use libc::STDERR_FILENO;
 use libc::STDIN_FILENO;
 use libc::STDOUT_FILENO;
@@ -10,6 +9,7 @@ use printed::input::byte_in;
 use printed::input::panel_in;
 use printed::input::rest_in;
 use printed::screen::print_picture;
+use state::panel::Panel;
 use writer::write::write;
 use writer::written::Written;
 
