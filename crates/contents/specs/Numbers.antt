@@ -1,7 +1,6 @@
 -- 01, Numbers returned: the number and place of a screen asked for.
 use Prim.Native.Nat.{ℕ}
 use mathlib.Core.Bool.{cond}
-use mathlib.Core.List.{List}
 use lib.Dec.{ltb}
 use lib.ListN.{length}
 use Rattle.contents.specs.declared.ask.Asked.{Asked}

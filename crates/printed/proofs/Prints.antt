@@ -1,7 +1,7 @@
 -- What the input gives, what a run's text rests on, and the whole text.
 use mathlib.Core.Path.{_≡_, refl, ap, sym, subst, _∙_}
 use mathlib.Core.Bool.{Bool, true, false, cond, _&&_, _||_}
-use mathlib.Core.List.{List, [], _∷_, _++_}
+use mathlib.Core.List.{List, [], _++_}
 use mathlib.Core.Logic.{⊎-elim}
 use Prim.Native.Nat.{ℕ, _+_, _-_, _*_, _/_, _%_, _≤_, _<_, min}
 use native.Mathlib.Nat.{mul-le-mul}
@@ -29,7 +29,7 @@ use Rattle.printed.specs.Put.{Put}
 use Rattle.printed.specs.Printed.{panelIn, logIn, characterRow, characters, ranIn, textOf, logText, ranLine, frameLine, frameLines, printed, printOf}
 use Rattle.printed.specs.Text.{hexLineAt, hexLines}
 use Rattle.printed.specs.Ready.{Draws, Ready}
-use Rattle.printed.proofs.Puts.{put-same, dot-line-length}
+use Rattle.printed.proofs.Puts.{put-same, put-both, dot-line-length}
 use Rattle.printed.proofs.Texts.{printed-none, printed-all, printed-within, printed-settled}
 
 -- the log, cut out between two places of the input
@@ -121,11 +121,12 @@ module _ (p : Panel) (rom : List ℕ) (e : RanAll) {a b : List ℕ} {w : ℕ} wh
       put-same (λ k. cond (sym h k) (ranLine (e .ran)) (ranLine (e .ran) ++ hexLines (e .ran .answers) (e .answers) ++ frameLines p (frameOf p (e .ran .registers .display) (e .memory) rom))) x
 
   pub text-long : (eqb (e .ran .number) 1 || eqb (e .ran .number) 8) ≡ false
-      → Put a 0 (ranLine (e .ran) ++ hexLines (e .ran .answers) (e .answers) ++ frameLines p (frameOf p (e .ran .registers .display) (e .memory) rom)) b w
-      → Put a 0 (textOf p rom e) b w
+      → {c d : List ℕ} {j k : ℕ} → Put a 0 (ranLine (e .ran)) c j → Put c j (hexLines (e .ran .answers) (e .answers)) d k
+      → Put d k (frameLines p (frameOf p (e .ran .registers .display) (e .memory) rom)) b w → Put a 0 (textOf p rom e) b w
   unfolding textOf
-  text-long h x =
-      put-same (λ k. cond (sym h k) (ranLine (e .ran)) (ranLine (e .ran) ++ hexLines (e .ran .answers) (e .answers) ++ frameLines p (frameOf p (e .ran .registers .display) (e .memory) rom))) x
+  text-long h x y z =
+      put-same (λ k. cond (sym h k) (ranLine (e .ran)) (ranLine (e .ran) ++ hexLines (e .ran .answers) (e .answers) ++ frameLines p (frameOf p (e .ran .registers .display) (e .memory) rom)))
+      (put-both (put-both x y) z)
 
 -- how long the parts are
 pub hex-lines-length : (given : ℕ) (bytes : List ℕ) → length (hexLines given bytes) ≡ given * 3

@@ -5,7 +5,7 @@ ghost use Rattle.ground.specs.Lists.{build, zeros};
 ghost use Rattle.printed.specs.Printed.{characterRow, characters};
 
 // Row v of code k is (k+v) mod 256.
-pub fn fill_characters(rom: &mut [u8])
+fn fill_characters(rom: &mut [u8])
     ensures { λ _. ⌜ now (rom .exit) ≡ build (length (now (rom .entry))) characterRow ⌝ }
 {
     let mut i: usize = 0;
