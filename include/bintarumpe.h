@@ -13,7 +13,8 @@
 
    Numbers: 0 done; 1 panel or registers not valid, or a byte above that stands for nothing; 2 a buffer of another length; of a pair:
    3 kind above 4, 4 undefined code, 5 command in auto mode, 6 too few data, 7 data access against the auto mode; of a log: 8 odd
-   length, 13 no room for an answer. On 1 and 2 no buffer is written. */
+   length, 13 no room for an answer. 1 comes before 2, but for registers that are not 25 bytes: where the panel is valid they give 2.
+   On 1 and 2 no buffer is written. */
 #ifndef BINTARUMPE_H
 #define BINTARUMPE_H
 

@@ -13,7 +13,7 @@ void *memcpy(void *to, const void *from, unsigned long count);
 int memcmp(const void *one, const void *other, unsigned long count);
 
 /* BLOCK: the pairs of the longest block and of what leads to it. */
-enum { ANSWERS = 300, FRAME = 8 * 16 * 80, LOG = 1200, BLOCK = 2 * 65536 + 200, EVERY = 50 };
+enum { ANSWERS = 300, COUNTS = 4, FRAME = 8 * 16 * 80, LOG = 1200, BLOCK = 2 * 65536 + 200, EVERY = 50 };
 
 /* One side's buffers. */
 struct side {
@@ -33,7 +33,7 @@ struct trial {
     unsigned char memory[SECOND_MEMORY_LENGTH];
     unsigned char rom[SECOND_ROM_LENGTH];
     unsigned char log[LOG + 2 * BLOCK];
-    unsigned long log_length, limit, answers_length, frame_length, memory_length, rom_length;
+    unsigned long log_length, limit, answers_length, frame_length, memory_length, rom_length, counts_length;
 };
 
 static struct trial trial;
@@ -42,11 +42,11 @@ static struct side proved, second;
 /* The proved side, through its boundary. */
 static void run_proved(struct side *s, unsigned long from, unsigned long limit)
 {
-    unsigned long counts[3] = {0, 0, 0};
+    unsigned long counts[COUNTS] = {0};
     const unsigned long before = s->given;
     s->number = t6963c_run(trial.panel.columns, trial.panel.lines, trial.panel.width, s->registers, REGISTERS, s->memory,
                            trial.memory_length, trial.rom, trial.rom_length, trial.log + from, trial.log_length - from, limit,
-                           s->answers + before, trial.answers_length - before, counts, 3);
+                           s->answers + before, trial.answers_length - before, counts, trial.counts_length);
     s->place = counts[0], s->taken = counts[1], s->given = before + counts[2];
     s->painted = t6963c_paint(trial.panel.columns, trial.panel.lines, trial.panel.width, s->registers, REGISTERS, s->memory,
                               trial.memory_length, trial.rom, trial.rom_length, s->frame, trial.frame_length);
@@ -57,10 +57,17 @@ static void run_second(struct side *s, unsigned long from, unsigned long limit)
     struct second_registers r;
     const unsigned long before = s->given;
     from_bytes(s->registers, &r);
-    const struct second_run_reply reply =
-        second_run(&trial.panel, &r, s->memory, trial.memory_length, trial.rom, trial.rom_length, trial.log + from,
-                   trial.log_length - from, limit, s->answers + before, trial.answers_length - before);
-    s->number = reply.number, s->place = reply.place, s->taken = reply.taken, s->given = before + reply.answers;
+    /* Counts of another length than three are refused like any other fixed length: by 2, where panel and state are valid. */
+    if (trial.counts_length != 3) {
+        s->number = second_run(&trial.panel, &r, s->memory, trial.memory_length, trial.rom, trial.rom_length, trial.log, 0, 0,
+                               s->answers, 0).number == 1 ? 1 : 2;
+        s->place = s->taken = 0;
+    } else {
+        const struct second_run_reply reply =
+            second_run(&trial.panel, &r, s->memory, trial.memory_length, trial.rom, trial.rom_length, trial.log + from,
+                       trial.log_length - from, limit, s->answers + before, trial.answers_length - before);
+        s->number = reply.number, s->place = reply.place, s->taken = reply.taken, s->given = before + reply.answers;
+    }
     to_bytes(&r, s->registers);
     s->painted = second_frame(&trial.panel, &r, s->memory, trial.memory_length, trial.rom, trial.rom_length, s->frame,
                               trial.frame_length);
@@ -140,6 +147,9 @@ static void make(unsigned long long seed)
         trial.frame_length = below(&random, FRAME);
     trial.memory_length = below(&random, 40) ? SECOND_MEMORY_LENGTH : SECOND_MEMORY_LENGTH - 1;
     trial.rom_length = below(&random, 40) ? SECOND_ROM_LENGTH : SECOND_ROM_LENGTH - 1;
+    trial.counts_length = below(&random, 40) ? 3 : 2 + 2 * below(&random, 2);
+    if (trial.counts_length != 3 && below(&random, 2))
+        trial.registers[17] = 0; /* no cursor height: 1 comes before 2 */
 }
 
 /* The block that a long log has; none where another pair stands among its data. */

@@ -1,5 +1,6 @@
 pub mod Counting
 pub mod Finding
+pub mod Numbers
 pub mod Products
 pub mod Readings
 pub mod Verdicts

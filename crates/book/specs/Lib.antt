@@ -3,3 +3,4 @@ pub mod Pairs
 pub mod Range
 pub mod Screen
 pub mod Checked
+pub mod Numbers

@@ -4,10 +4,12 @@ ghost use Prim.Native.Nat.{_≤_, _<_};
 ghost use lib.ListN.{length};
 ghost use Rattle.book.specs.Operation.{sized, readText, readRectangle, readDot, readGlyph, readCursor, combinationOf, readCombine, foundHere, foundAt};
 ghost use Rattle.book.specs.Pairs.{pairsOf};
-use contents::bytes::byte_at;
-use contents::bytes::word_at;
+ghost use Rattle.book.specs.Screen.{operationsFrom};
+ghost use Rattle.book.specs.Numbers.{screenNumber, screenPlace, foundNumber, foundPlace};
 use super::product::below_product;
 use super::product::within_product;
+use contents::bytes::byte_at;
+use contents::bytes::word_at;
 use state::panel::Panel;
 use state::registers::Combination;
 
@@ -163,6 +165,7 @@ fn read_here(panel: Panel, book: &[u8], at: usize, end: usize) -> Found
 // What stands at a byte of a body that ends before `end`.
 pub fn read(panel: Panel, book: &[u8], at: usize, end: usize) -> Found
     ensures { λ r. ⌜ r ≡ foundAt panel (now (book .entry)) at end ⌝ }
+    ensures { λ r. ⌜ (foundNumber r ≡ screenNumber (operationsFrom 1 panel (now (book .entry)) at end)) × (foundPlace at r ≡ screenPlace (operationsFrom 1 panel (now (book .entry)) at end)) ⌝ }
 {
     if end <= at {
         return Found::End;

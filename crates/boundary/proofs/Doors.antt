@@ -6,15 +6,15 @@ use Prim.Native.Nat.{ℕ}
 use native.Mathlib.Omega.{arith}
 use lib.Dec.{eqb}
 use lib.ListN.{length, set}
-use borrow.Author.Tests.{eqb-true}
-use Rattle.ground.proofs.Tests.{both-left, both-right}
-use Rattle.state.specs.State.{validPanel, resetRegisters}
+use borrow.Author.Tests.{eqb-true, eq-eqb, ne-eqb}
+use Rattle.ground.proofs.Tests.{both-left}
+use Rattle.state.specs.State.{validPanel, validRegisters, resetRegisters}
 use Rattle.boundary.specs.Types.{Panel, Registers, Entry, State, Refused}
 use Rattle.boundary.specs.Image.{readable, stateOf, bytesOf}
 use Rattle.boundary.specs.Door.{entryOf, closes, keptOf, countsOf}
 
-answerOf : List ℕ → Bool → Bool → Bool → Entry
-answerOf b panel lent read = cond panel (cond lent (cond read (State (stateOf b)) (Refused 1)) (Refused 2)) (Refused 1)
+answerOf : List ℕ → Bool → Bool → Bool → Bool → Entry
+answerOf b panel fits stands lent = cond panel (cond fits (cond stands (cond lent (State (stateOf b)) (Refused 2)) (Refused 1)) (Refused 2)) (Refused 1)
 
 isState : Entry → Bool
 isState (State r) = true
@@ -25,60 +25,70 @@ held (State r) = r
 held (Refused n) = resetRegisters
 
 module _ (p : Panel) (lent : Bool) (b : List ℕ) where
-  entry-is : {v w x : Bool} → validPanel p ≡ v → (eqb (length b) 25 && lent) ≡ w → readable b ≡ x → entryOf p lent b ≡ answerOf b v w x
+  -- the bytes are registers, and valid ones
+  abbrev stands : Bool
+  stands = readable b && validRegisters (stateOf b)
+
+  entry-is : {v w x y : Bool} → validPanel p ≡ v → eqb (length b) 25 ≡ w → stands ≡ x → lent ≡ y → entryOf p lent b ≡ answerOf b v w x y
   unfolding entryOf answerOf
-  entry-is i j k = λ t. answerOf b (i t) (j t) (k t)
+  entry-is i j k l = λ t. answerOf b (i t) (j t) (k t) (l t)
 
   module _ {v : Bool} (i : v ≡ validPanel p) where
     pub enter-panel : v ≡ false → Refused 1 ≡ entryOf p lent b
     unfolding answerOf
-    enter-panel e = sym (entry-is (sym i ∙ e) refl refl)
+    enter-panel e = sym (entry-is (sym i ∙ e) refl refl refl)
 
     module _ (e : v ≡ true) where
-      pub enter-lent : (eqb (length b) 25 && lent) ≡ false → Refused 2 ≡ entryOf p lent b
+      pub enter-length : (length b ≡ 25 → ⊥) → Refused 2 ≡ entryOf p lent b
       unfolding answerOf
-      enter-lent j = sym (entry-is (sym i ∙ e) j refl)
+      enter-length j = sym (entry-is (sym i ∙ e) (ne-eqb (length b) 25 j) refl refl)
 
-      module _ (j : (eqb (length b) 25 && lent) ≡ true) {x : Bool} (k : x ≡ readable b) where
-        pub enter-bytes : x ≡ false → Refused 1 ≡ entryOf p lent b
-        unfolding answerOf
-        enter-bytes f = sym (entry-is (sym i ∙ e) j (sym k ∙ f))
+      module _ (j : length b ≡ 25) {x y : Bool} {r : Registers} (h : r ≡ stateOf b) (k : x ≡ readable b) (l : y ≡ validRegisters r) where
+        both-are : {t : Bool} → (x && y) ≡ t → stands ≡ t
+        both-are f = (λ t. sym k t && (ap validRegisters (sym h) ∙ sym l) t) ∙ f
 
-        pub enter-state : {r : Registers} → x ≡ true → r ≡ stateOf b → State r ≡ entryOf p lent b
+        pub enter-bytes : (x && y) ≡ false → Refused 1 ≡ entryOf p lent b
         unfolding answerOf
-        enter-state f h = ap State h ∙ sym (entry-is (sym i ∙ e) j (sym k ∙ f))
+        enter-bytes f = sym (entry-is (sym i ∙ e) (eq-eqb (length b) 25 j) (both-are f) refl)
+
+        pub enter-lent : (x && y) ≡ true → lent ≡ false → Refused 2 ≡ entryOf p lent b
+        unfolding answerOf
+        enter-lent f g = sym (entry-is (sym i ∙ e) (eq-eqb (length b) 25 j) (both-are f) g)
+
+        pub enter-state : (x && y) ≡ true → lent ≡ true → State r ≡ entryOf p lent b
+        unfolding answerOf
+        enter-state f g = ap State h ∙ sym (entry-is (sym i ∙ e) (eq-eqb (length b) 25 j) (both-are f) g)
 
   -- past the door each buffer has its length, and the bytes are the registers that go on
-  record Past (w x : Bool) (r : Registers) : Type 0 where
+  record Past (w x y : Bool) (r : Registers) : Type 0 where
     fits : w ≡ true
     read : x ≡ true
+    counted : y ≡ true
     state : stateOf b ≡ r
 
-  past : (v w x : Bool) {r : Registers} → answerOf b v w x ≡ State r → Past w x r
+  past : (v w x y : Bool) {r : Registers} → answerOf b v w x y ≡ State r → Past w x y r
   unfolding answerOf isState held
-  past true true true h = record { fits = refl; read = refl; state = ap held h }
-  past true true false h = absurd (false≢true (ap isState h))
-  past true false x h = absurd (false≢true (ap isState h))
-  past false w x h = absurd (false≢true (ap isState h))
+  past true true true true h = record { fits = refl; read = refl; counted = refl; state = ap held h }
+  past true true true false h = absurd (false≢true (ap isState h))
+  past true true false y h = absurd (false≢true (ap isState h))
+  past true false x y h = absurd (false≢true (ap isState h))
+  past false w x y h = absurd (false≢true (ap isState h))
 
   module _ {x : Entry} {r : Registers} (h : x ≡ entryOf p lent b) (k : x ≡ State r) where
-    entered : Past (eqb (length b) 25 && lent) (readable b) r
-    entered = past (validPanel p) (eqb (length b) 25 && lent) (readable b) (sym (entry-is refl refl refl) ∙ sym h ∙ k)
+    entered : Past (eqb (length b) 25) stands lent r
+    entered = past (validPanel p) (eqb (length b) 25) stands lent (sym (entry-is refl refl refl refl) ∙ sym h ∙ k)
 
     pub entered-length : length b ≡ 25
-    entered-length = eqb-true (length b) 25 (both-left _ lent (entered .fits))
+    entered-length = eqb-true (length b) 25 (entered .fits)
 
     pub entered-lent : lent ≡ true
-    entered-lent = both-right (eqb (length b) 25) _ (entered .fits)
+    entered-lent = entered .counted
 
     pub entered-readable : readable b ≡ true
-    entered-readable = entered .read
+    entered-readable = both-left (readable b) (validRegisters (stateOf b)) (entered .read)
 
     pub entered-state : stateOf b ≡ r
     entered-state = entered .state
-
-pub registers-fit : (b : List ℕ) (lent : Bool) → (eqb (length b) 25 && lent) ≡ true → length b ≡ 25
-registers-fit b lent e = eqb-true (length b) 25 (both-left _ lent e)
 
 -- written back, or not
 pub kept-closed : (n : ℕ) (r : Registers) (b : List ℕ) → closes n ≡ true → b ≡ keptOf n r b

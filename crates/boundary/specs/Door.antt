@@ -4,15 +4,18 @@ use mathlib.Core.Bool.{Bool, cond, _&&_, _||_}
 use mathlib.Core.List.{List, [], _∷_}
 use lib.Dec.{eqb}
 use lib.ListN.{length}
-use Rattle.state.specs.State.{validPanel}
+use Rattle.state.specs.State.{validPanel, validRegisters}
 use Rattle.boundary.specs.Types.{Panel, Registers, Entry, State, Refused}
 use Rattle.boundary.specs.Image.{bytesOf, readable, stateOf}
 
--- 1 panel not valid; 2 registers of another length than 25, or another buffer not as lent; 1 bytes that are no registers
+-- 1 panel not valid; 2 registers of another length than 25, which can't be read; 1 bytes that are no registers, or no valid ones;
+-- 2 another buffer not as lent
 unfoldable pub entryOf : Panel → Bool → List ℕ → Entry
 entryOf p lent b =
     cond (validPanel p)
-    (cond (eqb (length b) 25 && lent) (cond (readable b) (State (stateOf b)) (Refused 1)) (Refused 2))
+    (cond (eqb (length b) 25)
+    (cond (readable b && validRegisters (stateOf b)) (cond lent (State (stateOf b)) (Refused 2)) (Refused 1))
+    (Refused 2))
     (Refused 1)
 
 -- on 1 and 2 nothing is written

@@ -14,16 +14,20 @@ pub(crate) enum Entry {
     Refused(u8),
 }
 
-// `lent` says whether the other buffers whose length is fixed here have it.
+// `lent` says whether the other buffers whose length is fixed here have it; that is asked last, since 1 comes before 2.
 pub(crate) fn enter(panel: Panel, lent: bool, bytes: &[u8]) -> Entry
     ensures { λ r. ⌜ r ≡ entryOf panel lent (now (bytes .entry)) ⌝ }
 {
     if panel.valid() {
-        let fits = (bytes.len() == 25) & lent;
-        if fits {
-            if is_readable(bytes) {
-                let registers = decode(bytes);
-                Entry::State(registers)
+        if bytes.len() == 25 {
+            let registers = decode(bytes);
+            let stands = is_readable(bytes) & registers.valid();
+            if stands {
+                if lent {
+                    Entry::State(registers)
+                } else {
+                    Entry::Refused(2)
+                }
             } else {
                 Entry::Refused(1)
             }

@@ -9,9 +9,9 @@ use super::image::encode;
 use controller::access::access;
 use controller::run::run;
 use display::frame::paint;
+use ground::bytes::word;
 use state::panel::Panel;
 use state::registers::Registers;
-use ground::bytes::word;
 
 // One access: the number in the low byte, the byte read in the high one.
 #[no_mangle]

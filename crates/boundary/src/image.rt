@@ -2,6 +2,7 @@
 ghost use mathlib.Core.Path.{_≡_};
 ghost use lib.ListN.{length};
 ghost use Rattle.boundary.specs.Image.{flagByte, combinationByte, autoByte, bytesOf, combinationOf, autoOf, readable, displayOf, busOf, stateOf};
+use ground::bytes::word;
 use state::registers::Auto;
 use state::registers::Bus;
 use state::registers::Combination;
@@ -11,7 +12,6 @@ use state::registers::Pending;
 use state::registers::Plane;
 use state::registers::Registers;
 use state::registers::Shows;
-use ground::bytes::word;
 
 fn flag_byte(flag: bool) -> u8
     ensures { λ r. ⌜ r ≡ flagByte flag ⌝ }

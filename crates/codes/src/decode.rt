@@ -1,6 +1,7 @@
 // The 66 defined codes, by their high and low four bits.
 ghost use mathlib.Core.Path.{_≡_};
 ghost use Rattle.codes.specs.Command.{registerOf, controlOf, modeOf, showOf, heightOf, runOf, transferOf, screenOf, bitCodeOf, decodeOf};
+ghost use Rattle.codes.specs.Numbers.{codeNumber, decodedNumber};
 use super::command::Command;
 use super::command::Move;
 use super::command::Target;
@@ -115,6 +116,7 @@ fn bit_code(low: u8) -> Decoded
 
 pub fn decode(code: u8) -> Decoded
     ensures { λ r. ⌜ r ≡ decodeOf code ⌝ }
+    ensures { λ r. ⌜ decodedNumber r ≡ codeNumber code ⌝ }
 {
     let high = code / 16;
     let low = code % 16;

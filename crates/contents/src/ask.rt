@@ -2,9 +2,10 @@
 ghost use mathlib.Core.Path.{_≡_};
 ghost use Prim.Native.Nat.{_+_, _≤_};
 ghost use lib.ListN.{length};
-ghost use Rattle.contents.specs.Contents.{wrongEntry, firstBody, entriesFrom};
+ghost use Rattle.contents.specs.Contents.{wrongEntry, firstBody, entriesFrom, contentsOf};
 ghost use Rattle.contents.specs.Entry.{judged, entryOf};
 ghost use Rattle.contents.specs.Asked.{askedOf};
+ghost use Rattle.contents.specs.Numbers.{contentsNumber, contentsPlace, askedNumber, askedPlace};
 use super::bytes::byte_at;
 use super::bytes::word_at;
 
@@ -65,6 +66,7 @@ fn entry(book: &[u8], n: usize, number: usize) -> Asked
 // The body of a screen. All entries are judged, whichever is asked for.
 pub fn ask(book: &[u8], number: usize) -> Asked
     ensures { λ r. ⌜ r ≡ askedOf (now (book .entry)) number ⌝ }
+    ensures { λ r. ⌜ (askedNumber r ≡ contentsNumber (contentsOf (now (book .entry))) number) × (askedPlace r ≡ contentsPlace (contentsOf (now (book .entry)))) ⌝ }
 {
     let n = byte_at(book, 0) as usize;
     let fits = (1 <= book.len())

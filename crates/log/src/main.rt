@@ -6,18 +6,7 @@ use printed::print::print;
 fn main() {
     let mut input = [0u8; 16387];
     let got = io::read_full(STDIN_FILENO, &mut input);
-    let mut memory = [0u8; 65536];
-    let mut rom = [0u8; 1024];
-    let mut answers = [0u8; 8192];
-    let mut frame = [0u8; 10240];
     let mut out = [0u8; 131072];
-    let count = print(
-        &input[..got],
-        &mut memory,
-        &mut rom,
-        &mut answers,
-        &mut frame,
-        &mut out,
-    );
+    let count = print(&input[..got], &mut out);
     io::write_all(STDOUT_FILENO, &out[..count]);
 }

@@ -1,21 +1,20 @@
 -- What the input gives, what a run's text rests on, and the whole text.
 use mathlib.Core.Path.{_≡_, refl, ap, sym, subst, _∙_}
 use mathlib.Core.Bool.{Bool, true, false, cond, _&&_, _||_}
-use mathlib.Core.List.{List, [], _∷_, _++_}
+use mathlib.Core.List.{List, [], _++_}
 use mathlib.Core.Logic.{⊎-elim}
-use Prim.Native.Nat.{ℕ, zero, suc, _+_, _-_, _*_, _/_, _%_, _≤_, _<_, min}
+use Prim.Native.Nat.{ℕ, _+_, _-_, _*_, _/_, _%_, _≤_, _<_, min}
 use native.Mathlib.Nat.{mul-le-mul}
-use native.Mathlib.Numerals.{add-one}
 use native.Mathlib.Decide.{decLt}
 use native.Mathlib.Omega.{arith}
 use lib.Dec.{eqb}
-use lib.ListN.{length, take, drop, replicate, length-drop, length-replicate, drop-of-length-le, replicate-append-replicate, List·getD-eq-default}
+use lib.ListN.{length, take, drop, replicate, length-drop, length-replicate, drop-of-length-le, List·getD-eq-default}
 use lib.Seq.{take-all, take-nil}
-use borrow.Author.Tests.{eqb-true, eq-eqb, eqb-false}
+use borrow.Author.Tests.{eq-eqb, ne-eqb, eqb-false}
 use Rattle.ground.specs.Lists.{build, zeros}
 use Rattle.ground.specs.Packing.{rowBytes}
-use Rattle.ground.proofs.Lists.{joined-length}
-use Rattle.ground.proofs.Tests.{both, both-left, both-right}
+use Rattle.ground.proofs.Lists.{build-length, joined-length}
+use Rattle.ground.proofs.Tests.{both, both-left}
 use Rattle.state.specs.State.{validPanel, validRegisters, resetRegisters}
 use Rattle.display.specs.Frame.{frameOf, lentLengths, painted, Painted, paintOf, replyOf}
 use Rattle.state.proofs.Valid.{Panelled, panelled, narrow}
@@ -27,18 +26,11 @@ use Rattle.controller.specs.Ready.{standing}
 use Rattle.controller.proofs.Laws.{sounds, sounds-valid}
 use Rattle.controller.proofs.Splitting.{Kept, run-kept}
 use Rattle.printed.specs.Put.{Put}
-use Rattle.printed.specs.Printed.{panelIn, logIn, characterRow, characters, ranIn, textOf, logText, ranLine, frameLine, frameLines, lentRooms, printed, printOf}
+use Rattle.printed.specs.Printed.{panelIn, logIn, characterRow, characters, ranIn, textOf, logText, ranLine, frameLine, frameLines, printed, printOf}
 use Rattle.printed.specs.Text.{hexLineAt, hexLines}
 use Rattle.printed.specs.Ready.{Draws, Ready}
-use Rattle.printed.proofs.Puts.{put-same, dot-line-length}
+use Rattle.printed.proofs.Puts.{put-same, put-both, dot-line-length}
 use Rattle.printed.proofs.Texts.{printed-none, printed-all, printed-within, printed-settled}
-
--- a room filled with 0
-pub built-zeros : (n : ℕ) → build n (λ _. 0) ≡ zeros n
-unfolding build zeros
-built-zeros zero = refl
-built-zeros (suc n) =
-    ap (λ (l : List ℕ). l ++ (0 ∷ [])) (built-zeros n) ∙ replicate-append-replicate n 1 0 ∙ ap (λ (m : ℕ). replicate m 0) (add-one n)
 
 -- the log, cut out between two places of the input
 pub log-is : (l : List ℕ) {s e : ℕ} → s ≡ min 3 (length l) → e ≡ min 16387 (length l) → take (e - s) (drop s l) ≡ logIn l
@@ -129,11 +121,12 @@ module _ (p : Panel) (rom : List ℕ) (e : RanAll) {a b : List ℕ} {w : ℕ} wh
       put-same (λ k. cond (sym h k) (ranLine (e .ran)) (ranLine (e .ran) ++ hexLines (e .ran .answers) (e .answers) ++ frameLines p (frameOf p (e .ran .registers .display) (e .memory) rom))) x
 
   pub text-long : (eqb (e .ran .number) 1 || eqb (e .ran .number) 8) ≡ false
-      → Put a 0 (ranLine (e .ran) ++ hexLines (e .ran .answers) (e .answers) ++ frameLines p (frameOf p (e .ran .registers .display) (e .memory) rom)) b w
-      → Put a 0 (textOf p rom e) b w
+      → {c d : List ℕ} {j k : ℕ} → Put a 0 (ranLine (e .ran)) c j → Put c j (hexLines (e .ran .answers) (e .answers)) d k
+      → Put d k (frameLines p (frameOf p (e .ran .registers .display) (e .memory) rom)) b w → Put a 0 (textOf p rom e) b w
   unfolding textOf
-  text-long h x =
-      put-same (λ k. cond (sym h k) (ranLine (e .ran)) (ranLine (e .ran) ++ hexLines (e .ran .answers) (e .answers) ++ frameLines p (frameOf p (e .ran .registers .display) (e .memory) rom))) x
+  text-long h x y z =
+      put-same (λ k. cond (sym h k) (ranLine (e .ran)) (ranLine (e .ran) ++ hexLines (e .ran .answers) (e .answers) ++ frameLines p (frameOf p (e .ran .registers .display) (e .memory) rom)))
+      (put-both (put-both x y) z)
 
 -- how long the parts are
 pub hex-lines-length : (given : ℕ) (bytes : List ℕ) → length (hexLines given bytes) ≡ given * 3
@@ -160,34 +153,28 @@ unfolding ranIn
 ran-came input =
     run-came (panelIn input) resetRegisters (zeros 65536) characters (logIn input) (length (logIn input) / 2) (zeros 8192) refl (zeros-length 65536)
 
+pub zeros-are : (n : ℕ) → replicate n 0 ≡ zeros n
+unfolding zeros
+zeros-are n = refl
+
 pub characters-are : {rom : List ℕ} {n : ℕ} → rom ≡ build n characterRow → n ≡ 1024 → rom ≡ characters
 unfolding characters
 characters-are h e = h ∙ ap (λ (m : ℕ). build m characterRow) e
 
--- the door's tests, as facts
-pub record Lent (mem rom answers frame out : List ℕ) : Type 0 where
+pub characters-whole : {rom : List ℕ} → rom ≡ build 1024 characterRow → (rom ≡ characters) × (1024 ≡ length rom)
+characters-whole h = (characters-are h refl, sym (ap length h ∙ build-length 1024 characterRow))
+
+-- the rooms that a run has left
+pub record Rooms (mem rom answers frame out : List ℕ) : Type 0 where
   pub memory : length mem ≡ 65536
   pub characters : length rom ≡ 1024
   pub answered : length answers ≡ 8192
   pub framed : length frame ≡ 10240
   pub roomy : length out ≡ 131072
 
-pub lent : (mem rom answers frame out : List ℕ) → lentRooms mem rom answers frame out ≡ true → Lent mem rom answers frame out
-lent mem rom answers frame out e =
-    let four : (eqb (length mem) 65536 && eqb (length rom) 1024 && eqb (length answers) 8192 && eqb (length frame) 10240) ≡ true = both-left _ (eqb (length out) 131072) e in
-    let three : (eqb (length mem) 65536 && eqb (length rom) 1024 && eqb (length answers) 8192) ≡ true = both-left _ (eqb (length frame) 10240) four in
-    let two : (eqb (length mem) 65536 && eqb (length rom) 1024) ≡ true = both-left _ (eqb (length answers) 8192) three in
-    record {
-      memory = eqb-true (length mem) 65536 (both-left _ (eqb (length rom) 1024) two);
-      characters = eqb-true (length rom) 1024 (both-right (eqb (length mem) 65536) _ two);
-      answered = eqb-true (length answers) 8192 (both-right (eqb (length mem) 65536 && eqb (length rom) 1024) _ three);
-      framed = eqb-true (length frame) 10240 (both-right (eqb (length mem) 65536 && eqb (length rom) 1024 && eqb (length answers) 8192) _ four);
-      roomy = eqb-true (length out) 131072 (both-right (eqb (length mem) 65536 && eqb (length rom) 1024 && eqb (length answers) 8192 && eqb (length frame) 10240) _ e);
-    }
-
 -- the run's text may be written
 pub ready : (input : List ℕ) {p : Panel} {a : Ran} {mem rom answers frame out : List ℕ} → p ≡ panelIn input → ranAll a mem answers ≡ ranIn input
-    → Lent mem rom answers frame out → Ready p a mem rom answers frame out
+    → Rooms mem rom answers frame out → Ready p a mem rom answers frame out
 ready input {p} {a} {mem} {rom} {answers} i e l =
     let came : Came p (ranAll a mem answers) = subst (λ (q : Panel). Came q (ranAll a mem answers)) (sym i) (subst (λ (o : RanAll). Came (panelIn input) o) (sym e) (ran-came input)) in
     record {
@@ -199,22 +186,22 @@ ready input {p} {a} {mem} {rom} {answers} i e l =
       roomy = l .roomy;
     }
 
-module _ (input mem rom answers frame out : List ℕ) where
-  pub print-none : lentRooms mem rom answers frame out ≡ false → printed 0 out ≡ printOf input mem rom answers frame out
+module _ (input out : List ℕ) where
+  pub print-none : (length out ≡ 131072 → ⊥) → printed 0 out ≡ printOf input out
   unfolding printOf
-  print-none h = printed-none (lentRooms mem rom answers frame out) (logText input) out h
+  print-none h = printed-none (eqb (length out) 131072) (logText input) out (ne-eqb (length out) 131072 h)
 
-  pub print-all : lentRooms mem rom answers frame out ≡ true → {p : Panel} {c : List ℕ} {e : RanAll} → p ≡ panelIn input → c ≡ characters → e ≡ ranIn input
-      → {b : List ℕ} {w : ℕ} → Put out 0 (textOf p c e) b w → w ≤ 131072 → printed w b ≡ printOf input mem rom answers frame out
+  pub print-all : length out ≡ 131072 → {p : Panel} {c : List ℕ} {e : RanAll} → p ≡ panelIn input → c ≡ characters → e ≡ ranIn input
+      → {b : List ℕ} {w : ℕ} → Put out 0 (textOf p c e) b w → w ≤ 131072 → printed w b ≡ printOf input out
   unfolding printOf logText
   print-all h i j l x s =
-      printed-all (lentRooms mem rom answers frame out) (logText input) out h (put-same (λ k. textOf (i k) (j k) (l k)) x)
-      (omega (arith, lent mem rom answers frame out h .roomy))
+      printed-all (eqb (length out) 131072) (logText input) out (eq-eqb (length out) 131072 h) (put-same (λ k. textOf (i k) (j k) (l k)) x)
+      (omega arith)
 
   -- the text stands in its room
-  pub print-within : {b : List ℕ} {w : ℕ} → printed w b ≡ printOf input mem rom answers frame out → w ≤ length b
+  pub print-within : {b : List ℕ} {w : ℕ} → printed w b ≡ printOf input out → w ≤ length b
   unfolding printOf
-  print-within h = printed-within (lentRooms mem rom answers frame out) (logText input) out h
+  print-within h = printed-within (eqb (length out) 131072) (logText input) out h
 
 -- not refused by 1
 pub not-first : (a b : Bool) → (a || b) ≡ false → a ≡ false
@@ -229,6 +216,5 @@ module _ (p : Panel) (a : Ran) {mem rom answers frame out : List ℕ} (k : Ready
   ready-panel = panelled p (both-left (validPanel p) (validRegisters (a .registers)) ready-valid)
 
 -- two replies that meet the promise are equal
-pub print-settled : {n k : ℕ} {b c : List ℕ} (input mem rom answers frame out : List ℕ)
-    → printed n b ≡ printOf input mem rom answers frame out → printed k c ≡ printOf input mem rom answers frame out → (n ≡ k) × (b ≡ c)
-print-settled input mem rom answers frame out h k = printed-settled h k
+pub print-settled : {n k : ℕ} {b c : List ℕ} (input out : List ℕ) → printed n b ≡ printOf input out → printed k c ≡ printOf input out → (n ≡ k) × (b ≡ c)
+print-settled input out h k = printed-settled h k

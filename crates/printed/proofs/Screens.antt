@@ -1,11 +1,13 @@
 -- What a screen's text rests on, and the whole text.
 use mathlib.Core.Path.{_≡_, refl, ap, sym, _∙_}
 use mathlib.Core.Bool.{Bool, true, false, cond, _&&_}
-use mathlib.Core.List.{List, [], _++_}
+use mathlib.Core.List.{List, [], _++_, append-nil}
 use Prim.Native.Nat.{ℕ, _*_, _≤_}
+use native.Mathlib.Decide.{ℕ-discrete}
 use native.Mathlib.Omega.{arith}
 use lib.Dec.{eqb}
-use lib.ListN.{length}
+use lib.ListN.{length, take, replicate, length-replicate}
+use lib.Seq.{length-take-le}
 use borrow.Author.Tests.{eqb-true, eq-eqb, ne-eqb}
 use Rattle.ground.specs.Packing.{rowBytes}
 use Rattle.ground.proofs.Tests.{both-left, both-right}
@@ -60,6 +62,23 @@ module _ (p : Panel) (number : ℕ) (frame : List ℕ) where
   pub rows-none : (number ≡ 0 → ⊥) → (a : List ℕ) (at : ℕ) → Put a at (screenLines p number frame) a at
   rows-none nz a at =
       put-same (sym (ap (λ (t : Bool). cond t (frameLines p frame) []) (ne-eqb number 0 nz))) (record { holds = refl; ends = omega arith })
+
+-- a refused screen's text is its line
+pub line-alone : (p : Panel) (number : ℕ) (frame line : List ℕ) → (number ≡ 0 → ⊥) → line ++ screenLines p number frame ≡ line
+line-alone p number frame line nz =
+    ap (λ (t : Bool). line ++ cond t (frameLines p frame) []) (ne-eqb number 0 nz) ∙ append-nil line
+
+-- a frame of its panel's length may be printed; none is asked of a refusal
+pub may-print : (p : Panel) (number : ℕ) (frame : List ℕ) → (number ≡ 0 → (validPanel p && frameFits p frame) ≡ true) → framed p number frame ≡ true
+may-print p number frame h = go (ℕ-discrete number 0)
+  where
+    go : Dec (number ≡ 0) → framed p number frame ≡ true
+    go (yes z) = ap (λ (t : Bool). cond t (validPanel p && frameFits p frame) true) (eq-eqb number 0 z) ∙ h z
+    go (no nz) = sym (framed-refused p number frame nz)
+
+-- a part of a blank array
+pub cut : (n m : ℕ) → n ≤ m → length {A = ℕ} (take n (replicate m 0)) ≡ n
+cut n m h = length-take-le n (replicate m 0) (omega (arith, length-replicate {0} {A = ℕ} m 0))
 
 -- any line, with the rows behind it
 module _ (p : Panel) (number : ℕ) (frame out line : List ℕ) {t : Bool} (i : t ≡ framed p number frame) where

@@ -1,6 +1,6 @@
 -- 01, Bench points: what the log program prints.
 use Prim.Native.Nat.{ℕ, _+_, _*_, _/_, _%_}
-use mathlib.Core.Bool.{Bool, cond, _&&_, _||_}
+use mathlib.Core.Bool.{Bool, cond, _||_}
 use mathlib.Core.List.{List, _++_}
 use lib.Dec.{eqb}
 use lib.ListN.{length, getD, take, drop}
@@ -62,12 +62,6 @@ textOf p rom e =
 unfoldable pub logText : List ℕ → List ℕ
 logText input = textOf (panelIn input) characters (ranIn input)
 
--- lent: 65,536 bytes of memory, 1,024 of ROM, 8,192 of answers, the largest frame's 10,240, 131,072 of text, which suffice
-abbrev pub lentRooms : List ℕ → List ℕ → List ℕ → List ℕ → List ℕ → Bool
-lentRooms mem rom answers frame out =
-    eqb (length mem) 65536 && eqb (length rom) 1024 && eqb (length answers) 8192 && eqb (length frame) 10240
-    && eqb (length out) 131072
-
 -- the bytes of text, and the lent room for it
 pub record Printed : Type 0 where
   pub count : ℕ
@@ -80,5 +74,6 @@ printed count out = record { count = count; out = out }
 abbrev pub printText : Bool → List ℕ → List ℕ → Printed
 printText lent text out = cond lent (printed (length text) (text ++ drop (length text) out)) (printed 0 out)
 
-unfoldable pub printOf : List ℕ → List ℕ → List ℕ → List ℕ → List ℕ → List ℕ → Printed
-printOf input mem rom answers frame out = printText (lentRooms mem rom answers frame out) (logText input) out
+-- lent: 131,072 bytes of text, which suffice
+unfoldable pub printOf : List ℕ → List ℕ → Printed
+printOf input out = printText (eqb (length out) 131072) (logText input) out

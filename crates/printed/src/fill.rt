@@ -1,21 +1,11 @@
-// Memory, answers and characters as a run finds them; the characters for any program that draws.
+// Memory, answers and characters as a program finds them.
 ghost use mathlib.Core.Path.{_≡_};
 ghost use lib.ListN.{length};
 ghost use Rattle.ground.specs.Lists.{build, zeros};
-ghost use Rattle.printed.specs.Printed.{characterRow};
-
-pub(crate) fn fill_zeros(room: &mut [u8])
-    ensures { λ _. ⌜ now (room .exit) ≡ zeros (length (now (room .entry))) ⌝ }
-{
-    let mut i: usize = 0;
-    while i < room.len() {
-        room[i] = 0;
-        i += 1;
-    }
-}
+ghost use Rattle.printed.specs.Printed.{characterRow, characters};
 
 // Row v of code k is (k+v) mod 256.
-pub fn fill_characters(rom: &mut [u8])
+fn fill_characters(rom: &mut [u8])
     ensures { λ _. ⌜ now (rom .exit) ≡ build (length (now (rom .entry))) characterRow ⌝ }
 {
     let mut i: usize = 0;
@@ -23,4 +13,30 @@ pub fn fill_characters(rom: &mut [u8])
         rom[i] = ((i / 8 + i % 8) % 256) as u8;
         i += 1;
     }
+}
+
+// The character ROM.
+pub fn character_rom() -> [u8; 1024]
+    ensures { λ r. ⌜ r ≡ characters ⌝ }
+    ensures { λ r. ⌜ 1024 ≡ length r ⌝ }
+{
+    let mut rom = [0u8; 1024];
+    fill_characters(&mut rom);
+    rom
+}
+
+// Memory that nothing was stored in.
+pub fn empty_memory() -> [u8; 65536]
+    ensures { λ r. ⌜ r ≡ zeros 65536 ⌝ }
+    ensures { λ r. ⌜ 65536 ≡ length r ⌝ }
+{
+    [0; 65536]
+}
+
+// Room for an answer to every pair of a log.
+pub(crate) fn no_answers() -> [u8; 8192]
+    ensures { λ r. ⌜ r ≡ zeros 8192 ⌝ }
+    ensures { λ r. ⌜ 8192 ≡ length r ⌝ }
+{
+    [0; 8192]
 }

@@ -2,8 +2,8 @@
 ghost use mathlib.Core.Path.{_≡_};
 ghost use lib.ListN.{getD, drop};
 ghost use Rattle.printed.specs.Printed.{panelIn, logIn};
-use state::panel::Panel;
 use ground::bytes::lesser;
+use state::panel::Panel;
 
 // A byte of the input, 0 where it is missing.
 pub fn byte_in(input: &[u8], at: usize) -> u8

@@ -2,14 +2,16 @@
 ghost use mathlib.Core.Path.{_≡_};
 ghost use Prim.Native.Nat.{_+_, _*_, _≤_};
 ghost use lib.ListN.{length};
+ghost use Rattle.ground.specs.Lists.{zeros};
 ghost use Rattle.ground.specs.Packing.{rowBytes};
 ghost use Rattle.display.specs.Frame.{frameOf};
 ghost use Rattle.controller.specs.Run.{ranAll};
 ghost use Rattle.printed.specs.Put.{Put};
 ghost use Rattle.printed.specs.Printed.{characters, ranIn, frameLines, textOf, printed, printOf};
 ghost use Rattle.printed.specs.Ready.{Draws, Ready};
-use crate::fill::fill_characters;
-use crate::fill::fill_zeros;
+use crate::fill::character_rom;
+use crate::fill::empty_memory;
+use crate::fill::no_answers;
 use crate::input::log_in;
 use crate::input::panel_in;
 use crate::put::put_first_line;
@@ -71,41 +73,28 @@ fn put_ran(
 }
 
 // The run of the input's log, from reset on fresh rooms.
-fn run_log(input: &[u8], memory: &mut [u8], rom: &mut [u8], answers: &mut [u8]) -> Ran
-    requires { ⌜ (length (now memory) ≡ 65536) × (length (now rom) ≡ 1024) × (length (now answers) ≡ 8192) ⌝ }
+fn run_log(input: &[u8], memory: &mut [u8], rom: &[u8], answers: &mut [u8]) -> Ran
+    requires { ⌜ (now memory ≡ zeros 65536) × (now rom ≡ characters) × (now answers ≡ zeros 8192) ⌝ }
     ensures { λ r. ⌜ ranAll r (now (memory .exit)) (now (answers .exit)) ≡ ranIn (now (input .entry)) ⌝ }
-    ensures { λ _. ⌜ now (rom .exit) ≡ characters ⌝ }
 {
-    fill_zeros(memory);
-    fill_characters(rom);
-    fill_zeros(answers);
     let panel = panel_in(input);
     let log = log_in(input);
     let registers = Registers::reset();
     run(panel, registers, memory, rom, log, log.len() / 2, answers)
 }
 
-// The whole text at the start of `out`, and its length; 0 where a lent length is wrong. The other rooms are to work in: what they hold
-// afterwards is not promised.
-pub fn print(
-    input: &[u8],
-    memory: &mut [u8],
-    rom: &mut [u8],
-    answers: &mut [u8],
-    frame: &mut [u8],
-    out: &mut [u8],
-) -> usize
-    ensures { λ r. ⌜ printed r (now (out .exit)) ≡ printOf (now (input .entry)) (now (memory .entry)) (now (rom .entry)) (now (answers .entry)) (now (frame .entry)) (now (out .entry)) ⌝ }
+// The whole text at the start of `out`, and its length; 0 where the room has another length than 131,072.
+pub fn print(input: &[u8], out: &mut [u8]) -> usize
+    ensures { λ r. ⌜ printed r (now (out .exit)) ≡ printOf (now (input .entry)) (now (out .entry)) ⌝ }
 {
-    let fits = (memory.len() == 65536)
-        & (rom.len() == 1024)
-        & (answers.len() == 8192)
-        & (frame.len() == 10240)
-        & (out.len() == 131072);
-    if fits {
-        let ran = run_log(input, memory, rom, answers);
+    if out.len() == 131072 {
+        let mut memory = empty_memory();
+        let rom = character_rom();
+        let mut answers = no_answers();
+        let mut frame = [0u8; 10240];
+        let ran = run_log(input, &mut memory, &rom, &mut answers);
         let panel = panel_in(input);
-        put_ran(panel, ran, memory, rom, answers, frame, out)
+        put_ran(panel, ran, &memory, &rom, &answers, &mut frame, out)
     } else {
         0
     }

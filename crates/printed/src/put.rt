@@ -7,8 +7,8 @@ ghost use Rattle.ground.specs.Packing.{rowBytes};
 ghost use Rattle.printed.specs.Put.{Put};
 ghost use Rattle.printed.specs.Text.{decimal, hexDigit, hexLine, hexLines, dotMark, dotLine};
 ghost use Rattle.printed.specs.Printed.{refusalLine, firstLine, frameLines};
-use state::panel::Panel;
 use ground::bytes::bit;
+use state::panel::Panel;
 
 // One character.
 fn put_byte(out: &mut [u8], at: usize, byte: u8) -> usize

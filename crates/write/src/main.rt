@@ -1,8 +1,10 @@
 // The write program: a panel, a screen's number and a book from standard input; to standard output the log that shows the screen, or
 // to standard error its refusal.
 ghost use mathlib.Core.Path.{_≡_};
+ghost use mathlib.Core.Bool.{true};
 ghost use lib.ListN.{length};
-use state::panel::Panel;
+ghost use Rattle.printed.specs.Printed.{printed, refusalLine, printText};
+ghost use Rattle.write.specs.Writing.{givenIn, writeGivenOf};
 use libc::STDERR_FILENO;
 use libc::STDIN_FILENO;
 use libc::STDOUT_FILENO;
@@ -10,37 +12,59 @@ use printed::input::byte_in;
 use printed::input::panel_in;
 use printed::input::rest_in;
 use printed::screen::print_picture;
+use state::panel::Panel;
 use writer::write::write;
-use writer::written::Written;
+
+// How many bytes go to standard output and to standard error.
+struct Lengths {
+    output: usize,
+    error: usize,
+}
+
+// Room for a panel and 1,048,576 pairs. The `ensures` gives only the length.
+fn empty_room() -> [u8; 2097155]
+    ensures { λ r. ⌜ 2097155 ≡ length r ⌝ }
+{
+    [0; 2097155]
+}
 
 // A refusal's line; there is no frame to print.
-fn refuse(panel: Panel, written: Written) {
-    let none = [0u8; 0];
-    let mut line = [0u8; 131072];
-    let count = print_picture(panel, written.number, written.place, &none, &mut line);
-    io::write_all(STDERR_FILENO, &line[..count]);
-}
-
-// Room for 1,048,576 pairs. The `ensures` gives only the length.
-fn empty_room() -> [u8; 2097152]
-    ensures { λ r. ⌜ 2097152 ≡ length r ⌝ }
+fn put_refusal(panel: Panel, number: u8, place: usize, error: &mut [u8]) -> usize
+    requires { ⌜ (number ≡ 0 → ⊥) × (length (now error) ≡ 131072) ⌝ }
+    ensures { λ r. ⌜ printed r (now (error .exit)) ≡ printText true (refusalLine number place) (now (error .entry)) ⌝ }
 {
-    [0; 2097152]
+    let none = [0u8; 0];
+    print_picture(panel, number, place, &none, error)
 }
 
-// A screen's stream behind its panel.
-fn answer(input: &[u8]) {
+// What the program gives, at the start of two rooms, and how much; nothing where a room has another length.
+fn write_both(input: &[u8], out: &mut [u8], error: &mut [u8]) -> Lengths
+    ensures { λ r. ⌜ givenIn r (now (out .exit)) (now (error .exit)) ≡ writeGivenOf (now (input .entry)) (now (out .entry)) (now (error .entry)) ⌝ }
+{
+    let fits = (out.len() == 2097155) & (error.len() == 131072);
+    if !fits {
+        return Lengths {
+            output: 0,
+            error: 0,
+        };
+    }
     let panel = panel_in(input);
     let number = byte_in(input, 3) as usize;
     let book = rest_in(input, 4);
-    let mut room = empty_room();
-    let written = write(panel, book, number, &mut room);
-    if written.number == 0 {
-        io::write_all(STDOUT_FILENO, &input[..3]);
-        let end = 2 * written.pairs;
-        io::write_all(STDOUT_FILENO, &room[..end]);
-    } else {
-        refuse(panel, written);
+    let written = write(panel, book, number, &mut out[3..]);
+    if written.number != 0 {
+        let line = put_refusal(panel, written.number, written.place, error);
+        return Lengths {
+            output: 0,
+            error: line,
+        };
+    }
+    out[0] = byte_in(input, 0);
+    out[1] = byte_in(input, 1);
+    out[2] = byte_in(input, 2);
+    Lengths {
+        output: 3 + 2 * written.pairs,
+        error: 0,
     }
 }
 
@@ -48,5 +72,11 @@ fn answer(input: &[u8]) {
 fn main() {
     let mut input = [0u8; 32773];
     let got = io::read_full(STDIN_FILENO, &mut input);
-    answer(&input[..got]);
+    let mut out = empty_room();
+    let mut error = [0u8; 131072];
+    let given = write_both(&input[..got], &mut out, &mut error);
+    let output = given.output;
+    io::write_all(STDOUT_FILENO, &out[..output]);
+    let line = given.error;
+    io::write_all(STDERR_FILENO, &error[..line]);
 }

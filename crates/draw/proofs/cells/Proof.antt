@@ -1,5 +1,7 @@
 -- `cells` meets its contract.
-use mathlib.Core.Path.{sym, _∙_}
+use mathlib.Core.Path.{ap, sym, _∙_}
+use mathlib.Core.Bool.{Bool, cond}
+use Prim.Native.Nat.{_*_}
 use native.Mathlib.Omega.{arith}
 use Rattle.picture.proofs.Places.{cells-few}
 use borrow.Author.Needs.{needs}
@@ -13,10 +15,10 @@ mul-result : tie.Need-mul-result
 mul-result c = omega (arith, cells-few (c .before .before .before .args .panel) (sym (c .before .before .valid .ensures) ∙ c .before .if1 .taken))
 
 returns : tie.Need-returns
-returns c = cells-few (c .before .before .before .args .panel) (sym (c .before .before .valid .ensures) ∙ c .before .if1 .taken)
+returns c = (sym (ap (λ (t : Bool). cond t (c .before .before .before .args .panel .lines * c .before .before .before .args .panel .columns) 0) (sym (c .before .before .valid .ensures) ∙ c .before .if1 .taken)), cells-few (c .before .before .before .args .panel) (sym (c .before .before .valid .ensures) ∙ c .before .if1 .taken))
 
 returns-2 : tie.Need-returns-2
-returns-2 c = search needs
+returns-2 c = (sym (ap (λ (t : Bool). cond t (c .before .before .args .panel .lines * c .before .before .args .panel .columns) 0) (sym (c .before .valid .ensures) ∙ c .if1 .left)), omega arith)
 
 pub cells-spec : {M : Type 1} → statement M
 cells-spec = tie.close (tie.spec valid-requires mul-result returns returns-2)

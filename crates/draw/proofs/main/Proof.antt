@@ -1,6 +1,7 @@
 -- `main` meets its contract: the text stands in its room, so that much of it can be lent.
 use mathlib.Core.Path.{sym}
 use lib.Seq.{length-take-le}
+use Rattle.draw.proofs.Drawings.{draw-within}
 use borrow.Author.Needs.{needs}
 use Rattle.draw.proofs.main.Statement.{statement}
 use Rattle.draw.proofs.main.Tie as tie
@@ -14,35 +15,20 @@ read-full-requires c κs = search needs
 array-share-prefix-input : tie.Need-array-share-prefix-input
 array-share-prefix-input c = search needs
 
-slice-aggregate-answer : tie.Need-slice-aggregate-answer
-slice-aggregate-answer c = search needs
+slice-aggregate-draw-text : tie.Need-slice-aggregate-draw-text
+slice-aggregate-draw-text c = search needs
 
-slice-aggregate-answer-2 : tie.Need-slice-aggregate-answer-2
-slice-aggregate-answer-2 c = search needs
+slice-aggregate-draw-text-2 : tie.Need-slice-aggregate-draw-text-2
+slice-aggregate-draw-text-2 c = search needs
 
-slice-aggregate-answer-3 : tie.Need-slice-aggregate-answer-3
-slice-aggregate-answer-3 c = search needs
-
-slice-aggregate-answer-4 : tie.Need-slice-aggregate-answer-4
-slice-aggregate-answer-4 c = search needs
-
-slice-aggregate-answer-5 : tie.Need-slice-aggregate-answer-5
-slice-aggregate-answer-5 c = search needs
-
-slice-aggregate-answer-6 : tie.Need-slice-aggregate-answer-6
-slice-aggregate-answer-6 c = search needs
-
-slice-aggregate-answer-7 : tie.Need-slice-aggregate-answer-7
-slice-aggregate-answer-7 c = search needs
-
-answer-requires : tie.Need-answer-requires
-answer-requires c κs = search needs
+draw-text-requires : tie.Need-draw-text-requires
+draw-text-requires c κs = search needs
 
 array-share-prefix-out : tie.Need-array-share-prefix-out
-array-share-prefix-out c = search needs
+array-share-prefix-out c = draw-within _ _ (c .before .draw-text .ensures)
 
 slice-aggregate-write-all : tie.Need-slice-aggregate-write-all
-slice-aggregate-write-all c = sym (length-take-le _ _ (c .before .before .before .before .before .before .before .answer .ensures))
+slice-aggregate-write-all c = sym (length-take-le _ _ (draw-within _ _ (c .before .before .draw-text .ensures)))
 
 write-all-requires : tie.Need-write-all-requires
 write-all-requires c κs = search needs
@@ -57,14 +43,9 @@ main-spec =
     slice-aggregate-read-full
     read-full-requires
     array-share-prefix-input
-    slice-aggregate-answer
-    slice-aggregate-answer-2
-    slice-aggregate-answer-3
-    slice-aggregate-answer-4
-    slice-aggregate-answer-5
-    slice-aggregate-answer-6
-    slice-aggregate-answer-7
-    answer-requires
+    slice-aggregate-draw-text
+    slice-aggregate-draw-text-2
+    draw-text-requires
     array-share-prefix-out
     slice-aggregate-write-all
     write-all-requires

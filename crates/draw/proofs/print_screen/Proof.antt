@@ -1,5 +1,9 @@
--- `print_screen` meets its contract: the text stands in its room.
-use Rattle.printed.proofs.Screens.{picture-within}
+-- `print_screen` meets its contract: the picture drawn, and its text.
+use mathlib.Core.Path.{ap}
+use mathlib.Core.Bool.{not}
+use Prim.Native.Nat.{ℕ}
+use lib.Dec.{eqb}
+use Rattle.draw.proofs.Drawings.{draw-all}
 use borrow.Author.Needs.{needs}
 use Rattle.draw.proofs.print_screen.Statement.{statement}
 use Rattle.draw.proofs.print_screen.Tie as tie
@@ -38,7 +42,9 @@ same-length-5 : tie.Need-same-length-5
 same-length-5 c = search needs
 
 returns : tie.Need-returns
-returns c = picture-within _ _ _ _ _ (c .before .before .print-picture .ensures)
+returns c =
+    let s = c .before .before .before .before .before .before .before .before .before .before .before .before .before .before .before .before .before .before .before .before .before .before .before .before .before .before .before .before in
+    draw-all (s .args .input .now) (s .args .out .now) (s .pre .0 .0) (c .before .before .before .before .before .before .before .before .before .before .before .before .before .before .before .before .before .before .before .before .byte-in .ensures) (ap (λ (n : ℕ). not (eqb n 0)) (c .before .before .before .before .before .before .before .before .before .before .before .before .before .before .before .before .before .before .before .byte-in2 .ensures)) (c .before .before .before .before .before .before .before .before .before .before .before .before .before .before .before .before .before .before .rest-in .ensures) (s .pre .0 .1) (s .pre .1) (c .before .before .before .before .before .before .before .before .before .before .before .before .before .draw .ensures) (c .before .before .before .before .before .before .before .before .before .before .before .before .before .draw .kept .1 .1 .1 .1 .1 .1 .1 .1 .0) (c .before .before .print-picture .ensures)
 
 pub print-screen-spec : {M : Type 1} → statement M
 print-screen-spec =

@@ -21,26 +21,14 @@ slice-aggregate-print c = search needs
 slice-aggregate-print-2 : tie.Need-slice-aggregate-print-2
 slice-aggregate-print-2 c = search needs
 
-slice-aggregate-print-3 : tie.Need-slice-aggregate-print-3
-slice-aggregate-print-3 c = search needs
-
-slice-aggregate-print-4 : tie.Need-slice-aggregate-print-4
-slice-aggregate-print-4 c = search needs
-
-slice-aggregate-print-5 : tie.Need-slice-aggregate-print-5
-slice-aggregate-print-5 c = search needs
-
-slice-aggregate-print-6 : tie.Need-slice-aggregate-print-6
-slice-aggregate-print-6 c = search needs
-
 print-requires : tie.Need-print-requires
 print-requires c κs = search needs
 
 array-share-prefix-out : tie.Need-array-share-prefix-out
-array-share-prefix-out c = print-within _ _ _ _ _ _ (c .before .before .before .before .before .print .ensures)
+array-share-prefix-out c = print-within _ _ (c .before .print .ensures)
 
 slice-aggregate-write-all : tie.Need-slice-aggregate-write-all
-slice-aggregate-write-all c = sym (length-take-le _ _ (print-within _ _ _ _ _ _ (c .before .before .before .before .before .before .print .ensures)))
+slice-aggregate-write-all c = sym (length-take-le _ _ (print-within _ _ (c .before .before .print .ensures)))
 
 write-all-requires : tie.Need-write-all-requires
 write-all-requires c κs = search needs
@@ -57,10 +45,6 @@ main-spec =
     array-share-prefix-input
     slice-aggregate-print
     slice-aggregate-print-2
-    slice-aggregate-print-3
-    slice-aggregate-print-4
-    slice-aggregate-print-5
-    slice-aggregate-print-6
     print-requires
     array-share-prefix-out
     slice-aggregate-write-all

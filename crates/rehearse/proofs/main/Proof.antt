@@ -1,6 +1,7 @@
 -- `main` meets its contract: the text stands in its room, so that much of it can be lent.
 use mathlib.Core.Path.{sym}
 use lib.Seq.{length-take-le}
+use Rattle.rehearse.proofs.Rehearsings.{rehearse-within}
 use borrow.Author.Needs.{needs}
 use Rattle.rehearse.proofs.main.Statement.{statement}
 use Rattle.rehearse.proofs.main.Tie as tie
@@ -14,29 +15,20 @@ read-full-requires c κs = search needs
 array-share-prefix-input : tie.Need-array-share-prefix-input
 array-share-prefix-input c = search needs
 
-slice-aggregate-answer : tie.Need-slice-aggregate-answer
-slice-aggregate-answer c = search needs
+slice-aggregate-rehearse-text : tie.Need-slice-aggregate-rehearse-text
+slice-aggregate-rehearse-text c = search needs
 
-slice-aggregate-answer-2 : tie.Need-slice-aggregate-answer-2
-slice-aggregate-answer-2 c = search needs
+slice-aggregate-rehearse-text-2 : tie.Need-slice-aggregate-rehearse-text-2
+slice-aggregate-rehearse-text-2 c = search needs
 
-slice-aggregate-answer-3 : tie.Need-slice-aggregate-answer-3
-slice-aggregate-answer-3 c = search needs
-
-slice-aggregate-answer-4 : tie.Need-slice-aggregate-answer-4
-slice-aggregate-answer-4 c = search needs
-
-slice-aggregate-answer-5 : tie.Need-slice-aggregate-answer-5
-slice-aggregate-answer-5 c = search needs
-
-answer-requires : tie.Need-answer-requires
-answer-requires c κs = search needs
+rehearse-text-requires : tie.Need-rehearse-text-requires
+rehearse-text-requires c κs = search needs
 
 array-share-prefix-out : tie.Need-array-share-prefix-out
-array-share-prefix-out c = search needs
+array-share-prefix-out c = rehearse-within _ _ (c .before .rehearse-text .ensures)
 
 slice-aggregate-write-all : tie.Need-slice-aggregate-write-all
-slice-aggregate-write-all c = sym (length-take-le _ _ (c .before .before .before .before .before .answer .ensures))
+slice-aggregate-write-all c = sym (length-take-le _ _ (rehearse-within _ _ (c .before .before .rehearse-text .ensures)))
 
 write-all-requires : tie.Need-write-all-requires
 write-all-requires c κs = search needs
@@ -51,12 +43,9 @@ main-spec =
     slice-aggregate-read-full
     read-full-requires
     array-share-prefix-input
-    slice-aggregate-answer
-    slice-aggregate-answer-2
-    slice-aggregate-answer-3
-    slice-aggregate-answer-4
-    slice-aggregate-answer-5
-    answer-requires
+    slice-aggregate-rehearse-text
+    slice-aggregate-rehearse-text-2
+    rehearse-text-requires
     array-share-prefix-out
     slice-aggregate-write-all
     write-all-requires

@@ -1,11 +1,9 @@
--- `print_screen` meets its contract: the text stands in its room.
-use Rattle.printed.proofs.Screens.{rehearsal-within}
+-- `print_screen` meets its contract: the screen rehearsed, and its text.
+use mathlib.Core.Path.{sym}
+use Rattle.rehearse.proofs.Rehearsings.{rehearse-all}
 use borrow.Author.Needs.{needs}
 use Rattle.rehearse.proofs.print_screen.Statement.{statement}
 use Rattle.rehearse.proofs.print_screen.Tie as tie
-
-panel-in-requires : tie.Need-panel-in-requires
-panel-in-requires c κs = search needs
 
 byte-in-requires : tie.Need-byte-in-requires
 byte-in-requires c κs = search needs
@@ -41,13 +39,15 @@ same-length-3 : tie.Need-same-length-3
 same-length-3 c = search needs
 
 returns : tie.Need-returns
-returns c = rehearsal-within _ _ _ _ _ _ (c .before .before .print-rehearsal .ensures)
+returns c =
+    let s = c .before .before .before .before .before .before .before .before .before .before .before .before .before .before .before .before .before .before .before .before .before .before .before in
+    let a = c .before .before .before .before .before .before .before .before .before .before .rehearse in
+    rehearse-all (s .args .input .now) (s .args .out .now) (s .args .memory .now) (c .before .before .before .before .before .before .before .before .before .before .before .before .before .before .before .empty-room .result) (s .args .frame .now) (s .pre .0 .0) (c .before .before .before .before .before .before .before .before .before .before .before .before .before .before .before .before .before .byte-in .ensures) (c .before .before .before .before .before .before .before .before .before .before .before .before .before .before .before .before .rest-in .ensures) (s .pre .0 .1) (c .before .before .before .before .before .before .before .before .before .before .before .before .before .before .reset .ensures .0) (s .pre .1 .0) (s .pre .1 .1) (s .pre .1 .2) (sym (c .before .before .before .before .before .before .before .before .before .before .before .before .before .before .before .empty-room .ensures)) (a .ensures .0) (a .kept .1 .1 .1 .1 .1 .1 .1 .0) (c .before .before .print-rehearsal .ensures)
 
 pub print-screen-spec : {M : Type 1} → statement M
 print-screen-spec =
     tie.close
     (tie.spec
-    panel-in-requires
     byte-in-requires
     cast-number
     rest-in-requires

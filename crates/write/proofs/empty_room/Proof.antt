@@ -6,7 +6,7 @@ use Rattle.write.proofs.empty_room.Statement.{statement}
 use Rattle.write.proofs.empty_room.Tie as tie
 
 returns : tie.Need-returns
-returns c = sym (length-replicate {0} {A = ℕ} 2097152 0)
+returns c = sym (length-replicate {0} {A = ℕ} 2097155 0)
 
 pub empty-room-spec : {M : Type 1} → statement M
 empty-room-spec = tie.close (tie.spec returns)

@@ -18,7 +18,7 @@ enum-known-asked c = search needs
 count-requires : tie.Need-count-requires
 count-requires c κs =
     let a = c .before .before .before .before .before .before .before .args in
-    (sym (c .before .before .before .before .before .valid .ensures) ∙ c .before .before .before .before .if1 .taken, asked-inside (a .book .now) (a .number) (sym (c .before .before .before .ask .ensures) ∙ c .before .asked .given .1))
+    (sym (c .before .before .before .before .before .valid .ensures) ∙ c .before .before .before .before .if1 .taken, asked-inside (a .book .now) (a .number) (sym (c .before .before .before .ask .ensures .0) ∙ c .before .asked .given .1))
 
 enum-known-asked-2 : tie.Need-enum-known-asked-2
 enum-known-asked-2 c = search needs
@@ -32,12 +32,12 @@ refuse-requires-2 c κs = search needs
 returns : tie.Need-returns
 returns c =
     let a = c .before .before .before .before .before .before .before .before .args in
-    checked-body (a .panel) (a .book .now) (a .number) (c .before .before .before .before .before .before .valid .ensures) (c .before .before .before .before .before .if1 .taken) (c .before .before .before .before .ask .ensures) (c .before .before .asked .given .1) (c .count .ensures)
+    checked-body (a .panel) (a .book .now) (a .number) (c .before .before .before .before .before .before .valid .ensures) (c .before .before .before .before .before .if1 .taken) (c .before .before .before .before .ask .ensures .0) (c .before .before .asked .given .1) (c .count .ensures)
 
 returns-2 : tie.Need-returns-2
 returns-2 c =
     let a = c .before .before .before .before .before .before .before .before .args in
-    checked-refused (a .panel) (a .book .now) (a .number) (c .before .before .before .before .before .before .valid .ensures) (c .before .before .before .before .before .if1 .taken) (c .before .before .before .before .ask .ensures) (c .before .before .asked2 .given .1) (c .refuse .ensures)
+    checked-refused (a .panel) (a .book .now) (a .number) (c .before .before .before .before .before .before .valid .ensures) (c .before .before .before .before .before .if1 .taken) (c .before .before .before .before .ask .ensures .0) (c .before .before .asked2 .given .1) (c .refuse .ensures)
 
 returns-3 : tie.Need-returns-3
 returns-3 c = let a = c .before .before .before .before .args in checked-1 (a .panel) (a .book .now) (a .number) (c .before .before .valid .ensures) (c .before .if1 .left) (c .refuse2 .ensures)

@@ -25,19 +25,19 @@ pairs-requires : tie.Need-pairs-requires Inv-loop μ-loop
 pairs-requires c κs = search needs
 
 add-total : tie.Need-add-total Inv-loop μ-loop
-add-total c = let a = c .before .before .before .before .before .before .before .args in let k = counting-on (a .panel) (a .book .now) (a .start) (a .end) (c .before .before .before .before .before .loop .inv) (c .before .before .before .before .read .ensures) (c .before .before .found .given .1) (c .pairs .ensures) in omega (arith, k .few, k .to-end, k .inside)
+add-total c = let a = c .before .before .before .before .before .before .before .args in let k = counting-on (a .panel) (a .book .now) (a .start) (a .end) (c .before .before .before .before .before .loop .inv) (c .before .before .before .before .read .ensures .0) (c .before .before .found .given .1) (c .pairs .ensures) in omega (arith, k .few, k .to-end, k .inside)
 
 loop-less : tie.Need-loop-less Inv-loop μ-loop
-loop-less c = let a = c .before .before .before .before .before .before .before .args in let k = counting-found (a .panel) (a .book .now) (a .start) (a .end) (c .before .before .before .before .before .loop .inv) (c .before .before .before .before .read .ensures) (c .before .before .found .given .1) in omega (arith, k .on, k .to-end)
+loop-less c = let a = c .before .before .before .before .before .before .before .args in let k = counting-found (a .panel) (a .book .now) (a .start) (a .end) (c .before .before .before .before .before .loop .inv) (c .before .before .before .before .read .ensures .0) (c .before .before .found .given .1) in omega (arith, k .on, k .to-end)
 
 loop-again : tie.Need-loop-again Inv-loop μ-loop
-loop-again c = let a = c .before .before .before .before .before .before .before .args in counting-on (a .panel) (a .book .now) (a .start) (a .end) (c .before .before .before .before .before .loop .inv) (c .before .before .before .before .read .ensures) (c .before .before .found .given .1) (c .pairs .ensures)
+loop-again c = let a = c .before .before .before .before .before .before .before .args in counting-on (a .panel) (a .book .now) (a .start) (a .end) (c .before .before .before .before .before .loop .inv) (c .before .before .before .before .read .ensures .0) (c .before .before .found .given .1) (c .pairs .ensures)
 
 enum-told : tie.Need-enum-told Inv-loop μ-loop
 enum-told c = search needs
 
 returns : tie.Need-returns Inv-loop μ-loop
-returns c = let a = c .before .before .before .before .before .args in counting-ends (a .panel) (a .book .now) (a .start) (a .end) (c .before .before .before .loop .inv) (c .before .before .read .ensures) (c .enum-told .given .1)
+returns c = let a = c .before .before .before .before .before .args in counting-ends (a .panel) (a .book .now) (a .start) (a .end) (c .before .before .before .loop .inv) (c .before .before .read .ensures .0) (c .enum-told .given .1)
 
 enum-told-2 : tie.Need-enum-told-2 Inv-loop μ-loop
 enum-told-2 c = search needs
@@ -46,7 +46,7 @@ refuse-requires : tie.Need-refuse-requires Inv-loop μ-loop
 refuse-requires c κs = search needs
 
 returns-2 : tie.Need-returns-2 Inv-loop μ-loop
-returns-2 c = let a = c .before .before .before .before .before .before .args in counting-faulty (a .panel) (a .book .now) (a .start) (a .end) (c .before .before .before .before .loop .inv) (c .before .before .before .read .ensures) (c .before .enum-told2 .given .1) (c .refuse .ensures)
+returns-2 c = let a = c .before .before .before .before .before .before .args in counting-faulty (a .panel) (a .book .now) (a .start) (a .end) (c .before .before .before .before .loop .inv) (c .before .before .before .read .ensures .0) (c .before .enum-told2 .given .1) (c .refuse .ensures)
 
 pub count-spec : {M : Type 1} → statement M
 count-spec =

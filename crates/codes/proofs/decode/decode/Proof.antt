@@ -1,5 +1,7 @@
 -- `decode` meets its contract: the group that the high four bits name.
+use native.Mathlib.Omega.{arith}
 use borrow.Author.Tests.{ne-eqb}
+use Rattle.codes.proofs.Numbers.{numbered}
 use borrow.Author.Needs.{needs}
 use Rattle.codes.proofs.decode.decode.Statement.{statement}
 use Rattle.codes.proofs.decode.decode.Tie as tie
@@ -32,34 +34,34 @@ bit-code-requires : tie.Need-bit-code-requires
 bit-code-requires c κs = search needs
 
 returns : tie.Need-returns
-returns c = rw (c .before .match .keys1) (c .register .ensures)
+returns c = numbered (c .before .before .args .code) (omega arith) (rw (c .before .match .keys1) (c .register .ensures))
 
 returns-2 : tie.Need-returns-2
-returns-2 c = rw (c .before .match .keys2) (c .control .ensures)
+returns-2 c = numbered (c .before .before .args .code) (omega arith) (rw (c .before .match .keys2) (c .control .ensures))
 
 returns-3 : tie.Need-returns-3
-returns-3 c = rw (c .before .match .keys3) (c .mode .ensures)
+returns-3 c = numbered (c .before .before .args .code) (omega arith) (rw (c .before .match .keys3) (c .mode .ensures))
 
 returns-4 : tie.Need-returns-4
-returns-4 c = rw (c .before .match .keys4) (c .show .ensures)
+returns-4 c = numbered (c .before .before .args .code) (omega arith) (rw (c .before .match .keys4) (c .show .ensures))
 
 returns-5 : tie.Need-returns-5
-returns-5 c = rw (c .before .match .keys5) (c .height .ensures)
+returns-5 c = numbered (c .before .before .args .code) (omega arith) (rw (c .before .match .keys5) (c .height .ensures))
 
 returns-6 : tie.Need-returns-6
-returns-6 c = rw (c .before .match .keys6) (c .run .ensures)
+returns-6 c = numbered (c .before .before .args .code) (omega arith) (rw (c .before .match .keys6) (c .run .ensures))
 
 returns-7 : tie.Need-returns-7
-returns-7 c = rw (c .before .match .keys7) (c .transfer .ensures)
+returns-7 c = numbered (c .before .before .args .code) (omega arith) (rw (c .before .match .keys7) (c .transfer .ensures))
 
 returns-8 : tie.Need-returns-8
-returns-8 c = rw (c .before .match .keys8) (c .screen .ensures)
+returns-8 c = numbered (c .before .before .args .code) (omega arith) (rw (c .before .match .keys8) (c .screen .ensures))
 
 returns-9 : tie.Need-returns-9
-returns-9 c = rw (c .before .match .keys9) (c .bit-code .ensures)
+returns-9 c = numbered (c .before .before .args .code) (omega arith) (rw (c .before .match .keys9) (c .bit-code .ensures))
 
 returns-10 : tie.Need-returns-10
-returns-10 c = simp (ne-eqb _ _ (c .match .rest .1), ne-eqb _ _ (c .match .rest .0 .1), ne-eqb _ _ (c .match .rest .0 .0 .1), ne-eqb _ _ (c .match .rest .0 .0 .0 .1), ne-eqb _ _ (c .match .rest .0 .0 .0 .0 .1), ne-eqb _ _ (c .match .rest .0 .0 .0 .0 .0 .1), ne-eqb _ _ (c .match .rest .0 .0 .0 .0 .0 .0 .1), ne-eqb _ _ (c .match .rest .0 .0 .0 .0 .0 .0 .0 .1), ne-eqb _ _ (c .match .rest .0 .0 .0 .0 .0 .0 .0 .0 .1))
+returns-10 c = numbered (c .before .args .code) (omega arith) (simp (ne-eqb _ _ (c .match .rest .1), ne-eqb _ _ (c .match .rest .0 .1), ne-eqb _ _ (c .match .rest .0 .0 .1), ne-eqb _ _ (c .match .rest .0 .0 .0 .1), ne-eqb _ _ (c .match .rest .0 .0 .0 .0 .1), ne-eqb _ _ (c .match .rest .0 .0 .0 .0 .0 .1), ne-eqb _ _ (c .match .rest .0 .0 .0 .0 .0 .0 .1), ne-eqb _ _ (c .match .rest .0 .0 .0 .0 .0 .0 .0 .1), ne-eqb _ _ (c .match .rest .0 .0 .0 .0 .0 .0 .0 .0 .1)))
 
 pub decode-spec : {M : Type 1} → statement M
 decode-spec =

@@ -1,5 +1,6 @@
 -- `ask` meets its contract: the contents opened, the entries judged, then one of them read.
 use Rattle.contents.proofs.Asking.{opened, asked-shut, asked-wrong, asked-sound}
+use Rattle.contents.proofs.Numbers.{asked-numbered}
 use borrow.Author.Needs.{needs}
 use Rattle.contents.proofs.ask.ask.Statement.{statement}
 use Rattle.contents.proofs.ask.ask.Tie as tie
@@ -29,13 +30,19 @@ enum-known-entries : tie.Need-enum-known-entries
 enum-known-entries c = search needs
 
 returns : tie.Need-returns
-returns c = asked-sound (c .before .before .before .before .before .before .before .args .book .now) (c .before .before .before .before .before .before .before .args .number) (c .before .before .before .before .before .byte-at .ensures) (c .before .before .before .before .if1 .taken) (c .before .before .before .judge .ensures) (c .before .enum-told .given .1) (c .entry .ensures)
+returns c =
+    let s = c .before .before .before .before .before .before .before .args in
+    asked-numbered (s .book .now) (s .number) (asked-sound (s .book .now) (s .number) (c .before .before .before .before .before .byte-at .ensures) (c .before .before .before .before .if1 .taken) (c .before .before .before .judge .ensures) (c .before .enum-told .given .1) (c .entry .ensures))
 
 returns-2 : tie.Need-returns-2
-returns-2 c = asked-wrong (c .before .before .before .before .before .before .before .args .book .now) (c .before .before .before .before .before .before .before .args .number) (c .before .before .before .before .before .byte-at .ensures) (c .before .before .before .before .if1 .taken) (c .before .before .before .judge .ensures) (c .before .entries .given .1)
+returns-2 c =
+    let s = c .before .before .before .before .before .before .before .args in
+    asked-numbered (s .book .now) (s .number) (asked-wrong (s .book .now) (s .number) (c .before .before .before .before .before .byte-at .ensures) (c .before .before .before .before .if1 .taken) (c .before .before .before .judge .ensures) (c .before .entries .given .1))
 
 returns-3 : tie.Need-returns-3
-returns-3 c = asked-shut (c .before .before .before .args .book .now) (c .before .before .before .args .number) (c .before .byte-at .ensures) (c .if1 .left)
+returns-3 c =
+    let s = c .before .before .before .args in
+    asked-numbered (s .book .now) (s .number) (asked-shut (s .book .now) (s .number) (c .before .byte-at .ensures) (c .if1 .left))
 
 pub ask-spec : {M : Type 1} → statement M
 ask-spec =

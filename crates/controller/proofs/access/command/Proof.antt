@@ -16,7 +16,7 @@ refused-requires : tie.Need-refused-requires
 refused-requires c κs = search needs
 
 returns : tie.Need-returns
-returns c = rw (← c .before .before .before .decode .ensures, c .before .enum-told .given .1, c .refused .ensures)
+returns c = rw (← c .before .before .before .decode .ensures .0, c .before .enum-told .given .1, c .refused .ensures)
 
 obey-requires : tie.Need-obey-requires
 obey-requires c κs = search needs
@@ -25,7 +25,7 @@ same-length : tie.Need-same-length
 same-length c = search needs
 
 returns-2 : tie.Need-returns-2
-returns-2 c = rw (← c .before .before .before .before .before .before .before .decode .ensures, c .before .before .before .before .before .command .given .1) (c .before .before .obey .ensures)
+returns-2 c = rw (← c .before .before .before .before .before .before .before .decode .ensures .0, c .before .before .before .before .before .command .given .1) (c .before .before .obey .ensures)
 
 pub command-spec : {M : Type 1} → statement M
 command-spec =

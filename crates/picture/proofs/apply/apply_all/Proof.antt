@@ -25,13 +25,13 @@ enum-known-found : tie.Need-enum-known-found Inv-loop μ-loop
 enum-known-found c = search needs
 
 apply-requires : tie.Need-apply-requires Inv-loop μ-loop
-apply-requires c κs = let a = c .before .before .before .before .before .before .before .before .before .before .before .before .args in drawing-ready (a .panel) (a .book .now) (a .start) (a .end) (pictureWith (a .graphic .now) (a .codes .now) (a .glyphs .now) (a .style)) (c .before .before .before .before .before .before .before .loop .inv) (c .before .before .before .before .before .before .read .ensures) (c .before .before .before .before .found .given .1)
+apply-requires c κs = let a = c .before .before .before .before .before .before .before .before .before .before .before .before .args in drawing-ready (a .panel) (a .book .now) (a .start) (a .end) (pictureWith (a .graphic .now) (a .codes .now) (a .glyphs .now) (a .style)) (c .before .before .before .before .before .before .before .loop .inv) (c .before .before .before .before .before .before .read .ensures .0) (c .before .before .before .before .found .given .1)
 
 loop-less : tie.Need-loop-less Inv-loop μ-loop
-loop-less c = let a = c .before .before .before .before .before .before .before .before .before .before .before .before .before .before .before .before .before .before .before .args in let k = drawing-found (a .panel) (a .book .now) (a .start) (a .end) (pictureWith (a .graphic .now) (a .codes .now) (a .glyphs .now) (a .style)) (c .before .before .before .before .before .before .before .before .before .before .before .before .before .before .loop .inv) (c .before .before .before .before .before .before .before .before .before .before .before .before .before .read .ensures) (c .before .before .before .before .before .before .before .before .before .before .before .found .given .1) in omega (arith, k .on, k .to-end)
+loop-less c = let a = c .before .before .before .before .before .before .before .before .before .before .before .before .before .before .before .before .before .before .before .args in let k = drawing-found (a .panel) (a .book .now) (a .start) (a .end) (pictureWith (a .graphic .now) (a .codes .now) (a .glyphs .now) (a .style)) (c .before .before .before .before .before .before .before .before .before .before .before .before .before .before .loop .inv) (c .before .before .before .before .before .before .before .before .before .before .before .before .before .read .ensures .0) (c .before .before .before .before .before .before .before .before .before .before .before .found .given .1) in omega (arith, k .on, k .to-end)
 
 loop-again : tie.Need-loop-again Inv-loop μ-loop
-loop-again c = let a = c .before .before .before .before .before .before .before .before .before .before .before .before .before .before .before .before .before .before .before .args in drawing-on (a .panel) (a .book .now) (a .start) (a .end) (pictureWith (a .graphic .now) (a .codes .now) (a .glyphs .now) (a .style)) (c .before .before .before .before .before .before .before .before .before .before .before .before .before .before .loop .inv) (c .before .before .before .before .before .before .before .before .before .before .before .before .before .read .ensures) (c .before .before .before .before .before .before .before .before .before .before .before .found .given .1) (c .before .before .before .before .before .before .apply .ensures)
+loop-again c = let a = c .before .before .before .before .before .before .before .before .before .before .before .before .before .before .before .before .before .before .before .args in drawing-on (a .panel) (a .book .now) (a .start) (a .end) (pictureWith (a .graphic .now) (a .codes .now) (a .glyphs .now) (a .style)) (c .before .before .before .before .before .before .before .before .before .before .before .before .before .before .loop .inv) (c .before .before .before .before .before .before .before .before .before .before .before .before .before .read .ensures .0) (c .before .before .before .before .before .before .before .before .before .before .before .found .given .1) (c .before .before .before .before .before .before .apply .ensures)
 
 enum-told : tie.Need-enum-told Inv-loop μ-loop
 enum-told c = search needs
@@ -46,7 +46,7 @@ same-length-3 : tie.Need-same-length-3 Inv-loop μ-loop
 same-length-3 c = c .before .before .before .loop .inv .sized .glyphs ∙ sym (c .before .before .before .before .before .before .before .before .pre .1 .glyphs)
 
 returns : tie.Need-returns Inv-loop μ-loop
-returns c = let a = c .before .before .before .before .before .before .before .before .args in drawing-ends (a .panel) (a .book .now) (a .start) (a .end) (pictureWith (a .graphic .now) (a .codes .now) (a .glyphs .now) (a .style)) (c .before .before .before .loop .inv) (c .before .before .read .ensures) (c .enum-told .given .1)
+returns c = let a = c .before .before .before .before .before .before .before .before .args in drawing-ends (a .panel) (a .book .now) (a .start) (a .end) (pictureWith (a .graphic .now) (a .codes .now) (a .glyphs .now) (a .style)) (c .before .before .before .loop .inv) (c .before .before .read .ensures .0) (c .enum-told .given .1)
 
 enum-told-2 : tie.Need-enum-told-2 Inv-loop μ-loop
 enum-told-2 c = search needs
@@ -61,7 +61,7 @@ same-length-6 : tie.Need-same-length-6 Inv-loop μ-loop
 same-length-6 c = c .before .before .before .loop .inv .sized .glyphs ∙ sym (c .before .before .before .before .before .before .before .before .pre .1 .glyphs)
 
 returns-2 : tie.Need-returns-2 Inv-loop μ-loop
-returns-2 c = let a = c .before .before .before .before .before .before .before .before .args in absurd (drawing-never (a .panel) (a .book .now) (a .start) (a .end) (pictureWith (a .graphic .now) (a .codes .now) (a .glyphs .now) (a .style)) (c .before .before .before .loop .inv) (c .before .before .read .ensures) (c .enum-told2 .given .1))
+returns-2 c = let a = c .before .before .before .before .before .before .before .before .args in absurd (drawing-never (a .panel) (a .book .now) (a .start) (a .end) (pictureWith (a .graphic .now) (a .codes .now) (a .glyphs .now) (a .style)) (c .before .before .before .loop .inv) (c .before .before .read .ensures .0) (c .enum-told2 .given .1))
 
 pub apply-all-spec : {M : Type 1} → statement M
 apply-all-spec =

@@ -4,7 +4,6 @@ use native.Mathlib.Omega.{arith}
 use lib.Seq.{length-take-le}
 use Rattle.display.specs.Frame.{frameOf}
 use Rattle.controller.specs.Run.{ranAll}
-use Rattle.printed.proofs.Puts.{put-both}
 use Rattle.printed.proofs.Prints.{dots-few, frame-few, lines-few, text-short, text-long, hex-lines-length, frame-lines-length, ready-valid, ready-panel}
 use borrow.Author.Needs.{needs}
 use Rattle.printed.proofs.print.put_ran.Statement.{statement}
@@ -66,7 +65,7 @@ returns-2 c =
     let first = c .before .before .before .before .before .before .before .before .before .before .before .before .before .before .before .before .before .before .put-first-line .ensures in
     let answers = c .before .before .before .before .before .before .before .before .before .before .before .put-hex-lines .ensures in
     let frame = c .before .before .before .before .put-frame .ensures in
-    (text-long (s .args .panel) (s .args .rom .now) (ranAll (s .args .ran) (s .args .memory .now) (s .args .answers .now)) (c .before .before .before .before .before .before .before .before .before .before .before .before .before .if1 .left) (put-both (put-both (first .0) answers) frame), omega (arith, frame .ends, answers .ends, first .1, frame-lines-length (s .args .panel) (frameOf (s .args .panel) (s .args .ran .registers .display) (s .args .memory .now) (s .args .rom .now)), hex-lines-length (s .args .ran .answers) (s .args .answers .now), lines-few (s .args .panel) q, s .pre .given, s .pre .answered))
+    (text-long (s .args .panel) (s .args .rom .now) (ranAll (s .args .ran) (s .args .memory .now) (s .args .answers .now)) (c .before .before .before .before .before .before .before .before .before .before .before .before .before .if1 .left) (first .0) answers frame, omega (arith, frame .ends, answers .ends, first .1, frame-lines-length (s .args .panel) (frameOf (s .args .panel) (s .args .ran .registers .display) (s .args .memory .now) (s .args .rom .now)), hex-lines-length (s .args .ran .answers) (s .args .answers .now), lines-few (s .args .panel) q, s .pre .given, s .pre .answered))
 
 pub put-ran-spec : {M : Type 1} → statement M
 put-ran-spec =

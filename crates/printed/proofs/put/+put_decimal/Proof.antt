@@ -3,7 +3,6 @@ use mathlib.Core.Path.{ap, sym}
 use native.Mathlib.Omega.{arith}
 use lib.ListN.{length, length-append}
 use borrow.Author.Needs.{needs}
-use Rattle.printed.specs.Text.{decimal}
 use Rattle.printed.proofs.Puts.{put-both, put-same}
 use Rattle.printed.proofs.Decimals.{decimal-one, decimal-more}
 use Prim.Native.Nat.{ℕ, _<_}

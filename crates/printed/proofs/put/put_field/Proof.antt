@@ -1,7 +1,5 @@
 -- `put_field` meets its contract.
 use native.Mathlib.Omega.{arith}
-use lib.ListN.{length}
-use Rattle.printed.specs.Text.{decimal}
 use Rattle.printed.proofs.Puts.{put-both}
 use Rattle.printed.proofs.Decimals.{decimal-few}
 use borrow.Author.Needs.{needs}

@@ -22,13 +22,13 @@ enum-known-found : tie.Need-enum-known-found Inv-loop μ-loop
 enum-known-found c = search needs
 
 put-operation-requires : tie.Need-put-operation-requires Inv-loop μ-loop
-put-operation-requires c κs = let a = c .before .before .before .before .before .before .before .before .args in writing-ready (a .panel) (a .book .now) (a .start) (a .end) (a .at) (c .before .before .before .before .before .loop .inv) (c .before .before .before .before .read .ensures) (c .before .before .found .given .1)
+put-operation-requires c κs = let a = c .before .before .before .before .before .before .before .before .args in writing-ready (a .panel) (a .book .now) (a .start) (a .end) (a .at) (c .before .before .before .before .before .loop .inv) (c .before .before .before .before .read .ensures .0) (c .before .before .found .given .1)
 
 loop-less : tie.Need-loop-less Inv-loop μ-loop
-loop-less c = let a = c .before .before .before .before .before .before .before .before .before .before .before .args in let k = writing-found (a .panel) (a .book .now) (a .start) (a .end) (a .at) (c .before .before .before .before .before .before .before .before .loop .inv) (c .before .before .before .before .before .before .before .read .ensures) (c .before .before .before .before .before .found .given .1) in omega (arith, k .on, k .to-end)
+loop-less c = let a = c .before .before .before .before .before .before .before .before .before .before .before .args in let k = writing-found (a .panel) (a .book .now) (a .start) (a .end) (a .at) (c .before .before .before .before .before .before .before .before .loop .inv) (c .before .before .before .before .before .before .before .read .ensures .0) (c .before .before .before .before .before .found .given .1) in omega (arith, k .on, k .to-end)
 
 loop-again : tie.Need-loop-again Inv-loop μ-loop
-loop-again c = let a = c .before .before .before .before .before .before .before .before .before .before .before .args in writing-on (a .panel) (a .book .now) (a .start) (a .end) (a .at) (c .before .before .before .before .before .before .before .before .loop .inv) (c .before .before .before .before .before .before .before .read .ensures) (c .before .before .before .before .before .found .given .1) (c .before .before .put-operation .ensures)
+loop-again c = let a = c .before .before .before .before .before .before .before .before .before .before .before .args in writing-on (a .panel) (a .book .now) (a .start) (a .end) (a .at) (c .before .before .before .before .before .before .before .before .loop .inv) (c .before .before .before .before .before .before .before .read .ensures .0) (c .before .before .before .before .before .found .given .1) (c .before .before .put-operation .ensures)
 
 enum-told : tie.Need-enum-told Inv-loop μ-loop
 enum-told c = search needs
@@ -37,7 +37,7 @@ same-length : tie.Need-same-length Inv-loop μ-loop
 same-length c = c .before .before .before .loop .inv .puts .kept
 
 returns : tie.Need-returns Inv-loop μ-loop
-returns c = let a = c .before .before .before .before .before .before .args in writing-ends (a .panel) (a .book .now) (a .start) (a .end) (a .at) (c .before .before .before .loop .inv) (c .before .before .read .ensures) (c .enum-told .given .1)
+returns c = let a = c .before .before .before .before .before .before .args in writing-ends (a .panel) (a .book .now) (a .start) (a .end) (a .at) (c .before .before .before .loop .inv) (c .before .before .read .ensures .0) (c .enum-told .given .1)
 
 enum-told-2 : tie.Need-enum-told-2 Inv-loop μ-loop
 enum-told-2 c = search needs
@@ -46,7 +46,7 @@ same-length-2 : tie.Need-same-length-2 Inv-loop μ-loop
 same-length-2 c = c .before .before .before .loop .inv .puts .kept
 
 returns-2 : tie.Need-returns-2 Inv-loop μ-loop
-returns-2 c = let a = c .before .before .before .before .before .before .args in absurd (writing-never (a .panel) (a .book .now) (a .start) (a .end) (a .at) (c .before .before .before .loop .inv) (c .before .before .read .ensures) (c .enum-told2 .given .1))
+returns-2 c = let a = c .before .before .before .before .before .before .args in absurd (writing-never (a .panel) (a .book .now) (a .start) (a .end) (a .at) (c .before .before .before .loop .inv) (c .before .before .read .ensures .0) (c .enum-told2 .given .1))
 
 pub put-body-spec : {M : Type 1} → statement M
 put-body-spec =

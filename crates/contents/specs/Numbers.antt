@@ -1,0 +1,27 @@
+-- 01, Numbers returned: the number and place of a screen asked for.
+use Prim.Native.Nat.{ℕ}
+use mathlib.Core.Bool.{cond}
+use lib.Dec.{ltb}
+use lib.ListN.{length}
+use Rattle.contents.specs.declared.ask.Asked.{Asked}
+use Rattle.contents.specs.declared.ask.Asked.the-variants.{Body as Asked-Body, Refused}
+use Rattle.contents.specs.Contents.{Contents, sound, wrong}
+
+-- 9 contents wrong, 10 screen number n or more
+abbrev pub contentsNumber : Contents → ℕ → ℕ
+contentsNumber (sound bodies) number = cond (ltb number (length bodies)) 0 10
+contentsNumber (wrong place) number = 9
+
+-- the first wrong entry's byte, else 0
+abbrev pub contentsPlace : Contents → ℕ
+contentsPlace (sound bodies) = 0
+contentsPlace (wrong place) = place
+
+-- the number and place of an answer
+abbrev pub askedNumber : Asked → ℕ
+askedNumber (Asked-Body start end) = 0
+askedNumber (Refused n place) = n
+
+abbrev pub askedPlace : Asked → ℕ
+askedPlace (Asked-Body start end) = 0
+askedPlace (Refused n place) = place

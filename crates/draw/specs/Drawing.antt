@@ -1,0 +1,41 @@
+-- What the draw program prints, of every byte that it reads.
+use mathlib.Core.Path.{_≡_}
+use mathlib.Core.Bool.{Bool, true, cond, not, _&&_}
+use mathlib.Core.List.{List, _++_}
+use Prim.Native.Nat.{ℕ, _*_}
+use lib.Dec.{eqb}
+use lib.ListN.{length, getD, drop}
+use Rattle.state.specs.declared.panel.Panel.{Panel}
+use Rattle.state.specs.State.{validPanel}
+use Rattle.display.specs.Frame.{frameFits}
+use Rattle.book.specs.Screen.{Screen, screen, refused, screenOf}
+use Rattle.picture.specs.Picture.{pictureOf, pictureFrame}
+use Rattle.picture.specs.Drawn.{planesFit}
+use Rattle.printed.specs.Printed.{panelIn, characters, refusalLine, frameLines, Printed, printText}
+
+-- the fifth byte: 0 is off, any other normal
+abbrev pub phaseIn : List ℕ → Bool
+phaseIn input = not (eqb (getD input 4 0) 0)
+
+-- the refusal line, and with refusal 0 the rows of the screen's picture in that phase
+abbrev pub drawn : Panel → List ℕ → Bool → Screen → List ℕ
+drawn p rom normal (screen os) = refusalLine 0 0 ++ frameLines p (pictureFrame p rom (pictureOf p os) normal)
+drawn p rom normal (refused n place) = refusalLine n place
+
+-- C, L, w, number, phase, book: 1 where the panel is not valid, then what the screen comes to
+unfoldable pub drawText : List ℕ → List ℕ
+drawText input =
+    drawn (panelIn input) characters (phaseIn input)
+    (cond (validPanel (panelIn input)) (screenOf (panelIn input) (drop 5 input) (getD input 3 0)) (refused 1 0))
+
+-- lent: 131,072 bytes of text, which suffice
+unfoldable pub drawTextOf : List ℕ → List ℕ → Printed
+drawTextOf input out = printText (eqb (length out) 131072) (drawText input) out
+
+-- the cells of a valid panel
+abbrev pub cellsOf : Panel → ℕ
+cellsOf p = cond (validPanel p) (p .lines * p .columns) 0
+
+-- a valid panel's ROM, planes and frame: what an inner routine rests on
+pub record Cut (p : Panel) (rom graphic codes glyphs frame : List ℕ) : Type 0 where
+  pub fits : validPanel p ≡ true → (planesFit p rom graphic codes glyphs && frameFits p frame) ≡ true

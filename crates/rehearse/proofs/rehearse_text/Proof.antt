@@ -1,0 +1,57 @@
+-- `rehearse_text` meets its contract: fresh memory, and the part of the frame that is the panel's.
+use mathlib.Core.Path.{sym, _∙_}
+use Rattle.printed.proofs.Screens.{cut}
+use borrow.Author.Needs.{needs}
+use Rattle.rehearse.proofs.rehearse_text.Statement.{statement}
+use Rattle.rehearse.proofs.rehearse_text.Tie as tie
+
+panel-in-requires : tie.Need-panel-in-requires
+panel-in-requires c κs = search needs
+
+frame-bytes-requires : tie.Need-frame-bytes-requires
+frame-bytes-requires c κs = search needs
+
+empty-memory-requires : tie.Need-empty-memory-requires
+empty-memory-requires c κs = search needs
+
+character-rom-requires : tie.Need-character-rom-requires
+character-rom-requires c κs = search needs
+
+slice-aggregate-print-screen : tie.Need-slice-aggregate-print-screen
+slice-aggregate-print-screen c = search needs
+
+slice-aggregate-print-screen-2 : tie.Need-slice-aggregate-print-screen-2
+slice-aggregate-print-screen-2 c = search needs
+
+array-borrow-prefix-frame : tie.Need-array-borrow-prefix-frame
+array-borrow-prefix-frame c = search needs
+
+slice-aggregate-print-screen-3 : tie.Need-slice-aggregate-print-screen-3
+slice-aggregate-print-screen-3 c = sym (cut (c .before .before .before .before .before .frame-bytes .result) 10240 (c .before .before .before .before .before .frame-bytes .ensures .1))
+
+print-screen-requires : tie.Need-print-screen-requires
+print-screen-requires c κs =
+    let bytes = c .before .before .before .before .before .before .frame-bytes in
+    ((c .before .before .before .before .before .before .before .panel-in .ensures, c .before .before .before .before .character-rom .ensures .0), (sym (c .before .before .before .before .before .empty-memory .ensures .1), sym (c .before .before .before .before .character-rom .ensures .1), cut (bytes .result) 10240 (bytes .ensures .1) ∙ bytes .ensures .0))
+
+same-length : tie.Need-same-length
+same-length c = search needs
+
+returns : tie.Need-returns
+returns c = search needs
+
+pub rehearse-text-spec : {M : Type 1} → statement M
+rehearse-text-spec =
+    tie.close
+    (tie.spec
+    panel-in-requires
+    frame-bytes-requires
+    empty-memory-requires
+    character-rom-requires
+    slice-aggregate-print-screen
+    slice-aggregate-print-screen-2
+    array-borrow-prefix-frame
+    slice-aggregate-print-screen-3
+    print-screen-requires
+    same-length
+    returns)

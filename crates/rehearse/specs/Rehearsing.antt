@@ -1,0 +1,31 @@
+-- What the rehearse program prints, of every byte that it reads.
+use mathlib.Core.Bool.{true, cond}
+use mathlib.Core.List.{List, _++_}
+use Prim.Native.Nat.{ℕ, _*_}
+use lib.Dec.{ltb, eqb}
+use lib.ListN.{length, getD, drop}
+use Rattle.state.specs.declared.panel.Panel.{Panel}
+use Rattle.state.specs.State.{validPanel}
+use Rattle.book.specs.Screen.{Screen, screen, refused, screenOf}
+use Rattle.writer.specs.Stream.{countOf}
+use Rattle.picture.specs.Picture.{pictureOf, pictureFrame}
+use Rattle.printed.specs.Printed.{panelIn, characters, firstLine, frameLines, Printed, printText}
+
+-- the log program's first line with the pairs run, none of them answered, and with refusal 0 the rows of the screen's picture, the
+-- phase being normal at reset; 12 where a room of 2,097,152 bytes is too short for the stream
+abbrev pub rehearsed : Panel → List ℕ → Screen → List ℕ
+rehearsed p rom (screen os) =
+    cond (ltb 2097152 (2 * countOf p os))
+    (firstLine 0 0 12 (countOf p os))
+    (firstLine (countOf p os) 0 0 0 ++ frameLines p (pictureFrame p rom (pictureOf p os) true))
+rehearsed p rom (refused n place) = firstLine 0 0 n place
+
+-- C, L, w, number, book: 1 where the panel is not valid, then what the screen comes to
+unfoldable pub rehearseText : List ℕ → List ℕ
+rehearseText input =
+    rehearsed (panelIn input) characters
+    (cond (validPanel (panelIn input)) (screenOf (panelIn input) (drop 4 input) (getD input 3 0)) (refused 1 0))
+
+-- lent: 131,072 bytes of text, which suffice
+unfoldable pub rehearseTextOf : List ℕ → List ℕ → Printed
+rehearseTextOf input out = printText (eqb (length out) 131072) (rehearseText input) out

@@ -1,0 +1,72 @@
+-- `main` meets its contract: what is given stands in its rooms, so that much of them can be lent.
+use mathlib.Core.Path.{sym}
+use lib.Seq.{length-take-le}
+use Rattle.write.proofs.Writings.{output-within, error-within}
+use borrow.Author.Needs.{needs}
+use Rattle.write.proofs.main.Statement.{statement}
+use Rattle.write.proofs.main.Tie as tie
+
+slice-aggregate-read-full : tie.Need-slice-aggregate-read-full
+slice-aggregate-read-full c = search needs
+
+read-full-requires : tie.Need-read-full-requires
+read-full-requires c κs = search needs
+
+empty-room-requires : tie.Need-empty-room-requires
+empty-room-requires c κs = search needs
+
+array-share-prefix-input : tie.Need-array-share-prefix-input
+array-share-prefix-input c = search needs
+
+slice-aggregate-write-both : tie.Need-slice-aggregate-write-both
+slice-aggregate-write-both c = search needs
+
+slice-aggregate-write-both-2 : tie.Need-slice-aggregate-write-both-2
+slice-aggregate-write-both-2 c = search needs
+
+slice-aggregate-write-both-3 : tie.Need-slice-aggregate-write-both-3
+slice-aggregate-write-both-3 c = search needs
+
+write-both-requires : tie.Need-write-both-requires
+write-both-requires c κs = search needs
+
+array-share-prefix-out : tie.Need-array-share-prefix-out
+array-share-prefix-out c = output-within _ _ _ (c .before .before .write-both .ensures)
+
+slice-aggregate-write-all : tie.Need-slice-aggregate-write-all
+slice-aggregate-write-all c = sym (length-take-le _ _ (output-within _ _ _ (c .before .before .before .write-both .ensures)))
+
+write-all-requires : tie.Need-write-all-requires
+write-all-requires c κs = search needs
+
+array-share-prefix-error : tie.Need-array-share-prefix-error
+array-share-prefix-error c = error-within _ _ _ (c .before .before .before .before .write-both .ensures)
+
+slice-aggregate-write-all-2 : tie.Need-slice-aggregate-write-all-2
+slice-aggregate-write-all-2 c = sym (length-take-le _ _ (error-within _ _ _ (c .before .before .before .before .before .write-both .ensures)))
+
+write-all-requires-2 : tie.Need-write-all-requires-2
+write-all-requires-2 c κs = search needs
+
+returns : tie.Need-returns
+returns c = search needs
+
+pub main-spec : {M : Type 1} → statement M
+main-spec =
+    tie.close
+    (tie.spec
+    slice-aggregate-read-full
+    read-full-requires
+    empty-room-requires
+    array-share-prefix-input
+    slice-aggregate-write-both
+    slice-aggregate-write-both-2
+    slice-aggregate-write-both-3
+    write-both-requires
+    array-share-prefix-out
+    slice-aggregate-write-all
+    write-all-requires
+    array-share-prefix-error
+    slice-aggregate-write-all-2
+    write-all-requires-2
+    returns)

@@ -1,0 +1,51 @@
+-- What the write program gives, of every byte that it reads.
+use mathlib.Core.Bool.{Bool, cond, _&&_}
+use mathlib.Core.List.{List, [], _∷_}
+use Prim.Native.Nat.{ℕ, _*_}
+use lib.Dec.{ltb, eqb}
+use lib.ListN.{length, getD, drop}
+use Rattle.state.specs.declared.panel.Panel.{Panel}
+use Rattle.state.specs.State.{validPanel}
+use Rattle.controller.specs.Run.{logOf}
+use Rattle.book.specs.Screen.{Screen, screen, refused, screenOf}
+use Rattle.writer.specs.Stream.{streamOf, countOf}
+use Rattle.printed.specs.Printed.{panelIn, refusalLine, Printed, printed, printText}
+use Rattle.write.specs.declared.Lengths.{Lengths}
+
+-- what goes to standard output, and what to standard error
+pub record Given : Type 0 where
+  pub output : List ℕ
+  pub error : List ℕ
+
+abbrev pub refusalAlone : ℕ → ℕ → Given
+refusalAlone n place = record { output = []; error = refusalLine n place }
+
+-- C, L, w and the screen's stream, or a refusal's line; 12 where a room of 2,097,152 bytes is too short for the stream
+abbrev pub written : Panel → Screen → Given
+written p (screen os) =
+    cond (ltb 2097152 (2 * countOf p os))
+    (refusalAlone 12 (countOf p os))
+    (record { output = p .columns ∷ p .lines ∷ p .width ∷ logOf (streamOf p os); error = [] })
+written p (refused n place) = refusalAlone n place
+
+-- C, L, w, number, book: 1 where the panel is not valid, then what the screen comes to
+unfoldable pub writeGiven : List ℕ → Given
+writeGiven input =
+    written (panelIn input)
+    (cond (validPanel (panelIn input)) (screenOf (panelIn input) (drop 4 input) (getD input 3 0)) (refused 1 0))
+
+-- the bytes given, and the lent rooms for them
+pub record Both : Type 0 where
+  pub output : Printed
+  pub error : Printed
+
+abbrev pub givenIn : Lengths → List ℕ → List ℕ → Both
+givenIn n out error = record { output = printed (n .output) out; error = printed (n .error) error }
+
+-- each at the start of its room
+abbrev pub bothOf : Bool → Given → List ℕ → List ℕ → Both
+bothOf lent g out error = record { output = printText lent (g .output) out; error = printText lent (g .error) error }
+
+-- lent: 3 bytes and the stream's room for the output, 131,072 for the line
+unfoldable pub writeGivenOf : List ℕ → List ℕ → List ℕ → Both
+writeGivenOf input out error = bothOf (eqb (length out) 2097155 && eqb (length error) 131072) (writeGiven input) out error
