@@ -13,7 +13,7 @@ use Rattle.book.specs.declared.operation.Placed.{Placed}
 use Rattle.book.specs.declared.operation.Found.{Found}
 use Rattle.book.specs.declared.operation.Found.the-variants.{Operation as Found-Operation, End, Faulty}
 use Rattle.book.specs.Operation.{Operation, pairsFor, bodyCount, operationOf, foundAt}
-use Rattle.book.specs.Pairs.{pairsOf}
+use Rattle.book.specs.Pairs.{placedPairs}
 use Rattle.book.specs.Range.{FoundOperation}
 use Rattle.book.specs.Screen.{Screen, screen, refused, withOperation, operationsFrom}
 use Rattle.contents.specs.Inside.{Inside}
@@ -74,7 +74,7 @@ module _ (p : Panel) (book : List ℕ) (start end : ℕ) where
     pub counting-found : {o : Placed} {next : ℕ} → f ≡ Found-Operation o next → FoundOperation p book at end o next
     counting-found e = found-operation p book at end (sym i ∙ e)
 
-    pub counting-on : {o : Placed} {next n : ℕ} → f ≡ Found-Operation o next → n ≡ pairsOf o → Counting p book start end next (total + n)
+    pub counting-on : {o : Placed} {next n : ℕ} → f ≡ Found-Operation o next → n ≡ placedPairs o → Counting p book start end next (total + n)
     counting-on {o} {next} {n} e j =
         let g = found-operation p book at end (sym i ∙ e) in
         let m : n ≤ 10880 = rw j (pairs-few p (k .panel) book o (g .range)) in

@@ -21,7 +21,7 @@ use Rattle.book.specs.declared.operation.Found.{Found}
 use Rattle.book.specs.declared.operation.Found.the-variants.{Operation as Found-Operation, End, Faulty}
 use Rattle.contents.specs.Contents.{wordAt}
 use Rattle.book.specs.Operation.{pairsFor, operationOf, sized, readText, readRectangle, readDot, readGlyph, readCursor, combinationOf, readCombine, foundHere, foundAt}
-use Rattle.book.specs.Pairs.{pairsOf}
+use Rattle.book.specs.Pairs.{placedPairs}
 use Rattle.book.specs.Range.{InRange, Stands, ByteSized, FoundOperation}
 use Rattle.ground.proofs.Conjuncts.{three, four, five}
 
@@ -166,11 +166,11 @@ module _ (p : Panel) (book : List ℕ) (at end : ℕ) where
 pub read-settled : {x y : Found} (p : Panel) (book : List ℕ) (at end : ℕ) → x ≡ foundAt p book at end → y ≡ foundAt p book at end → x ≡ y
 read-settled p book at end h k = settled h k
 
-pub pairs-settled : {x y : ℕ} (o : Placed) → x ≡ pairsOf o → y ≡ pairsOf o → x ≡ y
+pub pairs-settled : {x y : ℕ} (o : Placed) → x ≡ placedPairs o → y ≡ placedPairs o → x ≡ y
 pairs-settled o h k = settled h k
 
 -- the pairs of an operation as it stands in the book
-pub pairs-placed : (p : Panel) (book : List ℕ) (o : Placed) → InRange p book o → pairsFor (operationOf book o) ≡ pairsOf o
+pub pairs-placed : (p : Panel) (book : List ℕ) (o : Placed) → InRange p book o → pairsFor (operationOf book o) ≡ placedPairs o
 pairs-placed p book (Text line column from n) k = ap (λ (m : ℕ). m + 5) (length-take-le n (drop from book) (rw length-drop (omega (arith, k .inside))))
 pairs-placed p book (Rectangle top column height width value) k = refl
 pairs-placed p book (Dot x y on) k = refl
@@ -179,7 +179,7 @@ pairs-placed p book (Cursor line column height blink) k = refl
 pairs-placed p book (Combine c) k = refl
 
 -- at most 128 rows of 80 bytes and five pairs
-pub pairs-few : (p : Panel) → Panelled p → (book : List ℕ) (o : Placed) → InRange p book o → pairsOf o ≤ 10880
+pub pairs-few : (p : Panel) → Panelled p → (book : List ℕ) (o : Placed) → InRange p book o → placedPairs o ≤ 10880
 pairs-few p q book (Text line column from n) k = omega (arith, k .few)
 pairs-few p q book (Rectangle top column height width value) k =
     mul-le-mul {n₂ = 128} {m₂ = 85} (omega (arith, k .down, q .lines)) (omega (arith, k .across, q .columns))

@@ -3,7 +3,7 @@ ghost use mathlib.Core.Path.{_≡_};
 ghost use Prim.Native.Nat.{_≤_, _<_};
 ghost use lib.ListN.{length};
 ghost use Rattle.book.specs.Operation.{sized, readText, readRectangle, readDot, readGlyph, readCursor, combinationOf, readCombine, foundHere, foundAt};
-ghost use Rattle.book.specs.Pairs.{pairsOf};
+ghost use Rattle.book.specs.Pairs.{placedPairs};
 ghost use Rattle.book.specs.Screen.{operationsFrom};
 ghost use Rattle.book.specs.Numbers.{screenNumber, screenPlace, foundNumber, foundPlace};
 use super::product::below_product;
@@ -178,7 +178,7 @@ pub fn read(panel: Panel, book: &[u8], at: usize, end: usize) -> Found
 
 // The pairs that an operation is written in.
 pub fn pairs(placed: Placed) -> usize
-    ensures { λ r. ⌜ r ≡ pairsOf placed ⌝ }
+    ensures { λ r. ⌜ r ≡ placedPairs placed ⌝ }
 {
     match placed {
         Placed::Text(_, _, _, n) => n as usize + 5,

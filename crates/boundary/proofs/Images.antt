@@ -58,11 +58,11 @@ state-back r =
         offset = r .display .offset;
         combination = combination-back (r .display .combination) i;
         external = flag-back (r .display .external) i;
-        shows = record {
-          graphic = flag-back (r .display .shows .graphic) i;
-          text = flag-back (r .display .shows .text) i;
-          cursor = flag-back (r .display .shows .cursor) i;
-          blink = flag-back (r .display .shows .blink) i;
+        bits = record {
+          graphic = flag-back (r .display .bits .graphic) i;
+          text = flag-back (r .display .bits .text) i;
+          cursor = flag-back (r .display .bits .cursor) i;
+          blink = flag-back (r .display .bits .blink) i;
         };
         cursor = r .display .cursor;
         phase = flag-back (r .display .phase) i;
@@ -96,8 +96,8 @@ pub bytes-readable : (r : Registers) → readable (bytesOf r) ≡ true
 unfolding bytesOf
 bytes-readable r =
     λ i. combination-readable (r .display .combination) i && flag-readable (r .display .external) i
-    && flag-readable (r .display .shows .graphic) i && flag-readable (r .display .shows .text) i
-    && flag-readable (r .display .shows .cursor) i && flag-readable (r .display .shows .blink) i
+    && flag-readable (r .display .bits .graphic) i && flag-readable (r .display .bits .text) i
+    && flag-readable (r .display .bits .cursor) i && flag-readable (r .display .bits .blink) i
     && auto-readable (r .bus .auto) i && flag-readable (r .bus .error) i && flag-readable (r .display .phase) i
 
 combination-forth : (n : ℕ) → leb n 3 ≡ true → combinationByte (combinationOf n) ≡ n

@@ -13,7 +13,7 @@ use Rattle.codes.specs.Command.{neededOf, isOff, endsAuto, decodeOf}
 use Rattle.state.specs.State.{validPanel, validRegisters}
 use Rattle.display.specs.Frame.{lentLengths, frameFits, Painted, paintOf}
 use Rattle.controller.specs.Types.{Auto, Off, Write, Read, Decoded, Defined, Undefined}
-use Rattle.controller.specs.Access.{Pair, Step, done, answered, refused, commandOf, writeOf, readOf, stepOf, Accessed, actedOf, accessOf}
+use Rattle.controller.specs.Access.{Pair, Step, done, answered, refused, commandOf, dataWriteOf, dataReadOf, stepOf, Accessed, actedOf, accessOf}
 use Rattle.effects.specs.Machine.{Machine, machine}
 use Rattle.controller.specs.Run.{pairsOf, Standing, Turn, went, halted, turnOf, short, afterTurn, runFrom, endNumber, RanAll, runOf}
 use Rattle.boundary.specs.Types.{Panel, Registers, Entry, State, Refused}
@@ -95,12 +95,12 @@ module _ (p : Panel) (rom : List ℕ) where
       (cond-has Late (eqb (q .kind) 2) (read-late (s .registers .bus .auto))
       (cond-has Late (eqb (q .kind) 3) tt (cond-has Late (eqb (q .kind) 4) tt refl))))
     where
-      write-late : (a : Auto) → Late (writeOf a s (q .byte))
+      write-late : (a : Auto) → Late (dataWriteOf a s (q .byte))
       write-late Off = tt
       write-late Write = tt
       write-late Read = refl
 
-      read-late : (a : Auto) → Late (readOf a s)
+      read-late : (a : Auto) → Late (dataReadOf a s)
       read-late Off = tt
       read-late Write = refl
       read-late Read = tt

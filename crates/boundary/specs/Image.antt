@@ -38,8 +38,8 @@ bytesOf r =
     ∷ r .display .graphic .home % 256 ∷ r .display .graphic .home / 256
     ∷ r .display .text .area ∷ r .display .graphic .area
     ∷ combinationByte (r .display .combination) ∷ flagByte (r .display .external)
-    ∷ flagByte (r .display .shows .graphic) ∷ flagByte (r .display .shows .text)
-    ∷ flagByte (r .display .shows .cursor) ∷ flagByte (r .display .shows .blink)
+    ∷ flagByte (r .display .bits .graphic) ∷ flagByte (r .display .bits .text)
+    ∷ flagByte (r .display .bits .cursor) ∷ flagByte (r .display .bits .blink)
     ∷ r .display .cursor .height ∷ autoByte (r .bus .auto)
     ∷ r .bus .pending .count ∷ r .bus .pending .older ∷ r .bus .pending .newest
     ∷ r .bus .latch ∷ flagByte (r .bus .error) ∷ flagByte (r .display .phase) ∷ []
@@ -59,7 +59,7 @@ displayOf b =
       offset = getD b 2 0;
       combination = combinationOf (getD b 11 0);
       external = eqb (getD b 12 0) 1;
-      shows = record {
+      bits = record {
         graphic = eqb (getD b 13 0) 1;
         text = eqb (getD b 14 0) 1;
         cursor = eqb (getD b 15 0) 1;

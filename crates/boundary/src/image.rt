@@ -11,7 +11,7 @@ use state::registers::Display;
 use state::registers::Pending;
 use state::registers::Plane;
 use state::registers::Registers;
-use state::registers::Shows;
+use state::registers::DisplayBits;
 
 fn flag_byte(flag: bool) -> u8
     ensures { λ r. ⌜ r ≡ flagByte flag ⌝ }
@@ -45,14 +45,14 @@ fn image(registers: Registers) -> [u8; 25]
 {
     let display = registers.display;
     let bus = registers.bus;
-    let shows = display.shows;
+    let bits = display.bits;
     let mode = display.combination;
     let combination = combination_byte(mode);
     let external = flag_byte(display.external);
-    let graphic = flag_byte(shows.graphic);
-    let text = flag_byte(shows.text);
-    let cursor = flag_byte(shows.cursor);
-    let blink = flag_byte(shows.blink);
+    let graphic = flag_byte(bits.graphic);
+    let text = flag_byte(bits.text);
+    let cursor = flag_byte(bits.cursor);
+    let blink = flag_byte(bits.blink);
     let running = bus.auto;
     let auto = auto_byte(running);
     let error = flag_byte(bus.error);
@@ -153,7 +153,7 @@ fn display_of(bytes: &[u8]) -> Display
         offset: bytes[2],
         combination,
         external: bytes[12] == 1,
-        shows: Shows {
+        bits: DisplayBits {
             graphic: bytes[13] == 1,
             text: bytes[14] == 1,
             cursor: bytes[15] == 1,

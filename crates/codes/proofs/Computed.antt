@@ -5,8 +5,8 @@ use Prim.Native.Nat.{ℕ, _+_, _-_, _/_, _%_, _≤_, _<_}
 use native.Mathlib.Omega.{arith}
 use lib.Dec.{ltb}
 use borrow.Author.Tests.{lt-ltb}
-use Rattle.state.specs.declared.registers.Shows.{Shows}
-use Rattle.codes.specs.Types.{Show, Height, Bit, Decoded, Defined, Undefined}
+use Rattle.state.specs.declared.registers.DisplayBits.{DisplayBits}
+use Rattle.codes.specs.Types.{DisplayMode, Height, Bit, Decoded, Defined, Undefined}
 use Rattle.codes.specs.Command.{has, heightOf, bitCodeOf, groupOf, decodeOf}
 
 -- A0H plus height-1
@@ -37,6 +37,6 @@ decode-bit false k l =
     reset-3 k l = let e : (0 + k) / 8 % 2 ≡ 0 = omega arith in cc
 
 -- 9EH or 9FH: graphic, text and cursor on, the cursor steady or blinking
-pub decode-cursor : (blink : Bool) → decodeOf (cond blink 0x9f 0x9e) ≡ Defined (Show (record { graphic = true; text = true; cursor = true; blink = blink }))
+pub decode-cursor : (blink : Bool) → decodeOf (cond blink 0x9f 0x9e) ≡ Defined (DisplayMode (record { graphic = true; text = true; cursor = true; blink = blink }))
 decode-cursor true = refl
 decode-cursor false = refl

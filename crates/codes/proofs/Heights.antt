@@ -8,17 +8,17 @@ use borrow.Author.Tests.{ltb-true}
 use Rattle.ground.proofs.Tests.{cond-has}
 use Rattle.state.specs.declared.registers.Auto.{Auto}
 use Rattle.state.specs.declared.registers.Combination.{Combination}
-use Rattle.state.specs.declared.registers.Shows.{Shows}
+use Rattle.state.specs.declared.registers.DisplayBits.{DisplayBits}
 use Rattle.codes.specs.declared.command.Target.{Target}
 use Rattle.codes.specs.declared.command.Move.{Move}
-use Rattle.codes.specs.Types.{Command, Set, Mode, Show, Height, Run, Store, Load, Peek, Copy, Bit, Decoded, Defined, Undefined}
+use Rattle.codes.specs.Types.{Command, Set, Mode, DisplayMode, Height, Run, Store, Load, Peek, Copy, Bit, Decoded, Defined, Undefined}
 use Rattle.codes.specs.Command.{heightOf, groupOf, decodeOf}
 
 -- any command, but a height in range
 pub data Sound : Decoded → Type 0 where
   set : {t : Target} → Sound (Defined (Set t))
   mode : {e : Bool} {k : Combination} → Sound (Defined (Mode e k))
-  show : {s : Shows} → Sound (Defined (Show s))
+  show : {s : DisplayBits} → Sound (Defined (DisplayMode s))
   height : {h : ℕ} → 1 ≤ h → h ≤ 8 → Sound (Defined (Height h))
   run : {a : Auto} → Sound (Defined (Run a))
   store : {m : Move} → Sound (Defined (Store m))

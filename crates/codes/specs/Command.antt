@@ -3,7 +3,7 @@ use Prim.Native.Nat.{ℕ, _+_, _/_, _%_}
 use mathlib.Core.Bool.{Bool, true, false, cond}
 use lib.Dec.{ltb, eqb}
 use Rattle.ground.specs.Bytes.{bitOf}
-use Rattle.codes.specs.Types.{Or, Exor, And, Attribute, Auto, Off, Write, Read, Cursor, Offset, Pointer, TextHome, TextArea, GraphicHome, GraphicArea, Up, Down, Stay, Command, Set, Mode, Show, Height, Run, Store, Load, Peek, Copy, Bit, Decoded, Defined, Undefined}
+use Rattle.codes.specs.Types.{Or, Exor, And, Attribute, Auto, Off, Write, Read, Cursor, Offset, Pointer, TextHome, TextArea, GraphicHome, GraphicArea, Up, Down, Stay, Command, Set, Mode, DisplayMode, Height, Run, Store, Load, Peek, Copy, Bit, Decoded, Defined, Undefined}
 
 -- bit k of a code
 abbrev pub has : ℕ → ℕ → Bool
@@ -36,17 +36,17 @@ modeOf low =
     Undefined)))
 
 -- 90H-9FH: bit 3 graphic, 2 text, 1 cursor, 0 cursor blink
-abbrev pub showOf : ℕ → Decoded
-showOf low =
-    Defined (Show (record { graphic = has low 3; text = has low 2; cursor = has low 1; blink = has low 0 }))
+abbrev pub displayModeOf : ℕ → Decoded
+displayModeOf low =
+    Defined (DisplayMode (record { graphic = has low 3; text = has low 2; cursor = has low 1; blink = has low 0 }))
 
 -- A0H-A7H: cursor height 1 to 8
 abbrev pub heightOf : ℕ → Decoded
 heightOf low = cond (ltb low 8) (Defined (Height (low + 1))) Undefined
 
 -- B0H, B1H, B2H: auto write, auto read, auto off
-abbrev pub runOf : ℕ → Decoded
-runOf low =
+abbrev pub autoCodeOf : ℕ → Decoded
+autoCodeOf low =
     cond (eqb low 0) (Defined (Run Write))
     (cond (eqb low 1) (Defined (Run Read))
     (cond (eqb low 2) (Defined (Run Off))
@@ -64,8 +64,8 @@ transferOf low =
     Undefined)))))
 
 -- E0H peek, E8H copy
-abbrev pub screenOf : ℕ → Decoded
-screenOf low = cond (eqb low 0) (Defined Peek) (cond (eqb low 8) (Defined Copy) Undefined)
+abbrev pub sightCodeOf : ℕ → Decoded
+sightCodeOf low = cond (eqb low 0) (Defined Peek) (cond (eqb low 8) (Defined Copy) Undefined)
 
 -- F0H-FFH: F0H up reset, F8H up set, the bit (code mod 8)
 abbrev pub bitCodeOf : ℕ → Decoded
@@ -76,11 +76,11 @@ groupOf high low =
     cond (eqb high 2) (registerOf low)
     (cond (eqb high 4) (controlOf low)
     (cond (eqb high 8) (modeOf low)
-    (cond (eqb high 9) (showOf low)
+    (cond (eqb high 9) (displayModeOf low)
     (cond (eqb high 10) (heightOf low)
-    (cond (eqb high 11) (runOf low)
+    (cond (eqb high 11) (autoCodeOf low)
     (cond (eqb high 12) (transferOf low)
-    (cond (eqb high 14) (screenOf low)
+    (cond (eqb high 14) (sightCodeOf low)
     (cond (eqb high 15) (bitCodeOf low)
     Undefined))))))))
 
@@ -91,7 +91,7 @@ decodeOf code = groupOf (code / 16) (code % 16)
 abbrev pub neededOf : Command → ℕ
 neededOf (Set t) = 2
 neededOf (Mode e k) = 0
-neededOf (Show s) = 0
+neededOf (DisplayMode s) = 0
 neededOf (Height h) = 0
 neededOf (Run a) = 0
 neededOf (Store m) = 1
@@ -109,7 +109,7 @@ isOff Read = false
 abbrev pub endsAuto : Command → Bool
 endsAuto (Set t) = false
 endsAuto (Mode e k) = false
-endsAuto (Show s) = false
+endsAuto (DisplayMode s) = false
 endsAuto (Height h) = false
 endsAuto (Run a) = isOff a
 endsAuto (Store m) = false

@@ -5,6 +5,6 @@ pub use Rattle.state.specs.declared.registers.Auto.the-variants.{Off, Write, Re
 pub use Rattle.codes.specs.declared.command.Target.the-variants.{Cursor, Offset, Pointer, TextHome, TextArea, GraphicHome, GraphicArea}
 pub use Rattle.codes.specs.declared.command.Move.the-variants.{Up, Down, Stay}
 pub use Rattle.codes.specs.declared.command.Command.{Command}
-pub use Rattle.codes.specs.declared.command.Command.the-variants.{Set, Mode, Show, Height, Run, Store, Load, Peek, Copy, Bit}
+pub use Rattle.codes.specs.declared.command.Command.the-variants.{Set, Mode, DisplayMode, Height, Run, Store, Load, Peek, Copy, Bit}
 pub use Rattle.codes.specs.declared.decode.Decoded.{Decoded}
 pub use Rattle.codes.specs.declared.decode.Decoded.the-variants.{Defined, Undefined}

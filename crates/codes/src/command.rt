@@ -3,7 +3,7 @@ ghost use mathlib.Core.Path.{_≡_};
 ghost use Rattle.codes.specs.Command.{neededOf, endsAuto, isOff};
 use state::registers::Auto;
 use state::registers::Combination;
-use state::registers::Shows;
+use state::registers::DisplayBits;
 
 // What the two data of a command set.
 pub enum Target {
@@ -27,7 +27,7 @@ pub enum Command {
     Set(Target),
     // external, combination
     Mode(bool, Combination),
-    Show(Shows),
+    DisplayMode(DisplayBits),
     Height(u8),
     Run(Auto),
     Store(Move),
@@ -56,7 +56,7 @@ impl Command {
         match self {
             Command::Set(_) => 2,
             Command::Mode(_, _) => 0,
-            Command::Show(_) => 0,
+            Command::DisplayMode(_) => 0,
             Command::Height(_) => 0,
             Command::Run(_) => 0,
             Command::Store(_) => 1,
@@ -74,7 +74,7 @@ impl Command {
         match self {
             Command::Set(_) => false,
             Command::Mode(_, _) => false,
-            Command::Show(_) => false,
+            Command::DisplayMode(_) => false,
             Command::Height(_) => false,
             Command::Run(auto) => is_off(auto),
             Command::Store(_) => false,

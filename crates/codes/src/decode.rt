@@ -1,13 +1,13 @@
 // The 66 defined codes, by their high and low four bits.
 ghost use mathlib.Core.Path.{_≡_};
-ghost use Rattle.codes.specs.Command.{registerOf, controlOf, modeOf, showOf, heightOf, runOf, transferOf, screenOf, bitCodeOf, decodeOf};
+ghost use Rattle.codes.specs.Command.{registerOf, controlOf, modeOf, displayModeOf, heightOf, autoCodeOf, transferOf, sightCodeOf, bitCodeOf, decodeOf};
 ghost use Rattle.codes.specs.Numbers.{codeNumber, decodedNumber};
 use super::command::Command;
 use super::command::Move;
 use super::command::Target;
 use state::registers::Auto;
 use state::registers::Combination;
-use state::registers::Shows;
+use state::registers::DisplayBits;
 
 // A code is a command, or undefined.
 pub enum Decoded {
@@ -52,10 +52,10 @@ fn mode(low: u8) -> Decoded
     }
 }
 
-fn show(low: u8) -> Decoded
-    ensures { λ r. ⌜ r ≡ showOf low ⌝ }
+fn display_mode(low: u8) -> Decoded
+    ensures { λ r. ⌜ r ≡ displayModeOf low ⌝ }
 {
-    Decoded::Defined(Command::Show(Shows {
+    Decoded::Defined(Command::DisplayMode(DisplayBits {
         graphic: (low >> 3) % 2 == 1,
         text: (low >> 2) % 2 == 1,
         cursor: (low >> 1) % 2 == 1,
@@ -73,8 +73,8 @@ fn height(low: u8) -> Decoded
     }
 }
 
-fn run(low: u8) -> Decoded
-    ensures { λ r. ⌜ r ≡ runOf low ⌝ }
+fn auto_code(low: u8) -> Decoded
+    ensures { λ r. ⌜ r ≡ autoCodeOf low ⌝ }
 {
     match low {
         0 => Decoded::Defined(Command::Run(Auto::Write)),
@@ -98,8 +98,8 @@ fn transfer(low: u8) -> Decoded
     }
 }
 
-fn screen(low: u8) -> Decoded
-    ensures { λ r. ⌜ r ≡ screenOf low ⌝ }
+fn sight_code(low: u8) -> Decoded
+    ensures { λ r. ⌜ r ≡ sightCodeOf low ⌝ }
 {
     match low {
         0 => Decoded::Defined(Command::Peek),
@@ -124,11 +124,11 @@ pub fn decode(code: u8) -> Decoded
         2 => register(low),
         4 => control(low),
         8 => mode(low),
-        9 => show(low),
+        9 => display_mode(low),
         10 => height(low),
-        11 => run(low),
+        11 => auto_code(low),
         12 => transfer(low),
-        14 => screen(low),
+        14 => sight_code(low),
         15 => bit_code(low),
         _ => Decoded::Undefined,
     }

@@ -12,7 +12,7 @@ use borrow.Author.Tests.{eq-eqb, ne-eqb}
 use Rattle.ground.specs.Lists.{stored}
 use Rattle.controller.specs.Types.{Panel, Auto, Off, Write, Read, Registers}
 use Rattle.effects.specs.Effect.{withBus, withPointer, isWrite}
-use Rattle.controller.specs.Access.{Pair, writeOf, stepOf}
+use Rattle.controller.specs.Access.{Pair, dataWriteOf, stepOf}
 use Rattle.effects.specs.Machine.{Machine, machine}
 use Rattle.controller.specs.Run.{pairsOf, Run, turnOf, afterTurn, runFrom, short}
 use Rattle.controller.specs.Ready.{standing, pairsFrom, dataOf, Blocked}
@@ -145,7 +145,7 @@ module _ (p : Panel) (rom : List ℕ) where
           let i : suc k + length (dataOf qs) ≡ k + suc (length (dataOf qs)) = omega arith in
           let j : ((r .bus .pointer + 1) % 65536 + length (dataOf qs)) % 65536 ≡ (r .bus .pointer + suc (length (dataOf qs))) % 65536 = omega arith in
           ap
-          (λ (x : Auto). afterTurn (turnOf (standing r m a g) (writeOf x (machine r m) b))
+          (λ (x : Auto). afterTurn (turnOf (standing r m a g) (dataWriteOf x (machine r m) b))
           (λ t. runFrom (stepOf p rom) (suc k) qs t)
           (λ n. record { standing = standing r m a g; taken = k; end = short n })) w
           ∙ rest b

@@ -15,8 +15,8 @@ use Rattle.state.specs.State.{validPanel, none}
 use Rattle.codes.specs.Command.{isOff}
 use Rattle.display.specs.Frame.{lentLengths}
 use Rattle.controller.specs.Types.{Panel, Display, Auto, Off, Write, Read, Pending, Bus, Registers, Turned, Ran, Told, Drawn, Up}
-use Rattle.effects.specs.Effect.{withBus, withPointer, withAuto, withLatch, withPending, withPhase, pushed, movedOf, isWrite, isRead, stateOf}
-use Rattle.controller.specs.Access.{Pair, Step, done, answered, refused, writeOf, readOf, stepOf}
+use Rattle.effects.specs.Effect.{withBus, withPointer, withAuto, withLatch, withPending, withPhase, pushed, movedOf, isWrite, isRead, busStatus}
+use Rattle.controller.specs.Access.{Pair, Step, done, answered, refused, dataWriteOf, dataReadOf, stepOf}
 use Rattle.effects.specs.Machine.{Machine, machine}
 use Rattle.controller.specs.Run.{pairsOf, Standing, Turn, went, halted, turnOf, End, whole, short, Run, afterTurn, runFrom, RanAll, ranAll, ranOf}
 use Rattle.controller.specs.Ready.{Runs, Tells, Draws, Blocked, pairsFrom, dataOf, standing, TurnedAll, turnedAll, turnedOf}
@@ -209,7 +209,7 @@ module _ {p : Panel} {rom log : List ℕ} {total : ℕ} {s₀ : Standing Machine
   room-still k r t = room-left k (both-left (eqb (getD log (2 * i) 0) k && ltb n (length a)) r t)
 
   module _ (h : i < total) (l : 2 * total ≤ length log) where
-    pub going-states : (eqb (getD log (2 * i) 0) 3 && ltb n (length a)) ≡ true → {v : ℕ} → v ≡ stateOf b (d .phase)
+    pub going-states : (eqb (getD log (2 * i) 0) 3 && ltb n (length a)) ≡ true → {v : ℕ} → v ≡ busStatus b (d .phase)
         → Going p rom log total s₀ (standing (record { display = d; bus = b }) m (set a n v) (n + 1)) (i + 1)
     going-states t f =
         going-answers g h l 3 (eqb-true (getD log (2 * i) 0) 3 (both-left (eqb (getD log (2 * i) 0) 3) (ltb n (length a)) t))
@@ -231,7 +231,7 @@ module _ {p : Panel} {rom log : List ℕ} {total : ℕ} {s₀ : Standing Machine
     going-fetches {read} e t f =
         let u = both-left (eqb (getD log (2 * i) 0) 2 && ltb n (length a)) read t in
         going-answers g h l 2 (eqb-true (getD log (2 * i) 0) 2 (both-left (eqb (getD log (2 * i) 0) 2) (ltb n (length a)) u))
-        (ap (λ (x : Auto). readOf x (machine (record { display = d; bus = b }) m)) (read-only (b .auto) (sym e ∙ both-right (eqb (getD log (2 * i) 0) 2 && ltb n (length a)) read t))
+        (ap (λ (x : Auto). dataReadOf x (machine (record { display = d; bus = b }) m)) (read-only (b .auto) (sym e ∙ both-right (eqb (getD log (2 * i) 0) 2 && ltb n (length a)) read t))
         ∙ (λ t. answered (machine (record { display = d; bus = withPointer b (sym f t .pointer) }) m) (sym f t .latch)))
         (both-right (eqb (getD log (2 * i) 0) 2) (ltb n (length a)) u)
 
@@ -240,7 +240,7 @@ module _ {p : Panel} {rom log : List ℕ} {total : ℕ} {s₀ : Standing Machine
           → Going p rom log total s₀ (standing (record { display = d; bus = withPending b q }) m a n) (i + 1)
       going-pushes t f =
           going-done g h l 0 (eqb-true (getD log (2 * i) 0) 0 (both-left (eqb (getD log (2 * i) 0) 0) off t))
-          (ap (λ (x : Auto). writeOf x (machine (record { display = d; bus = b }) m) (getD log (2 * i + 1) 0)) (off-only (b .auto) (sym e ∙ both-right (eqb (getD log (2 * i) 0) 0) off t))
+          (ap (λ (x : Auto). dataWriteOf x (machine (record { display = d; bus = b }) m) (getD log (2 * i + 1) 0)) (off-only (b .auto) (sym e ∙ both-right (eqb (getD log (2 * i) 0) 0) off t))
           ∙ (λ t. done (machine (record { display = d; bus = withPending b (sym f t) }) m)))
 
       pub going-reads : ((eqb (getD log (2 * i) 0) 2 && ltb n (length a)) && off) ≡ true
@@ -248,7 +248,7 @@ module _ {p : Panel} {rom log : List ℕ} {total : ℕ} {s₀ : Standing Machine
       going-reads t =
           let u = both-left (eqb (getD log (2 * i) 0) 2 && ltb n (length a)) off t in
           going-answers g h l 2 (eqb-true (getD log (2 * i) 0) 2 (both-left (eqb (getD log (2 * i) 0) 2) (ltb n (length a)) u))
-          (ap (λ (x : Auto). readOf x (machine (record { display = d; bus = b }) m)) (off-only (b .auto) (sym e ∙ both-right (eqb (getD log (2 * i) 0) 2 && ltb n (length a)) off t)))
+          (ap (λ (x : Auto). dataReadOf x (machine (record { display = d; bus = b }) m)) (off-only (b .auto) (sym e ∙ both-right (eqb (getD log (2 * i) 0) 2 && ltb n (length a)) off t)))
           (both-right (eqb (getD log (2 * i) 0) 2) (ltb n (length a)) u)
 
       pub going-tells : {told : Told} {after : List ℕ} → Tells b m (eqb (getD log (2 * i) 0) 1 && off) (getD log (2 * i + 1) 0) told after → told .done ≡ true

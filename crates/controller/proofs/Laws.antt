@@ -15,10 +15,10 @@ use Rattle.codes.proofs.Heights.{Sound, height, decode-sound}
 use Rattle.state.specs.State.{validDisplay, validBus, validRegisters, none}
 use Rattle.state.specs.Combination.{isAttribute}
 use Rattle.state.proofs.Valid.{Displaying, displaying, display-valid, Bussing, bussing, bus-valid}
-use Rattle.controller.specs.Types.{Panel, Display, Bus, Pending, Registers, Auto, Off, Write, Read, Target, Command, Set, Mode, Show, Height, Run, Store, Load, Peek, Copy, Bit, Decoded, Defined, Undefined, Position, At, Nowhere}
+use Rattle.controller.specs.Types.{Panel, Display, Bus, Pending, Registers, Auto, Off, Write, Read, Target, Command, Set, Mode, DisplayMode, Height, Run, Store, Load, Peek, Copy, Bit, Decoded, Defined, Undefined, Position, At, Nowhere}
 use Rattle.effects.specs.Effect.{pushed, setOf, statusOf}
 use Rattle.sight.specs.Position.{positionOf}
-use Rattle.controller.specs.Access.{Pair, Step, done, answered, refused, effectOf, dropped, obeyOf, commandOf, writeOf, readOf, tickOf, stepOf}
+use Rattle.controller.specs.Access.{Pair, Step, done, answered, refused, effectOf, dropped, obeyOf, commandOf, dataWriteOf, dataReadOf, tickOf, stepOf}
 use Rattle.effects.specs.Machine.{Machine, machine}
 use Rattle.sight.specs.Sight.{copiedOf, copyOf}
 
@@ -32,7 +32,7 @@ keepsDisplay (Set target.TextArea) = false
 keepsDisplay (Set target.GraphicHome) = false
 keepsDisplay (Set target.GraphicArea) = false
 keepsDisplay (Mode e k) = false
-keepsDisplay (Show b) = false
+keepsDisplay (DisplayMode b) = false
 keepsDisplay (Height h) = false
 keepsDisplay (Run a) = true
 keepsDisplay (Store v) = true
@@ -45,7 +45,7 @@ keepsDisplay (Bit on k) = true
 abbrev pub keepsMemory : Command → Bool
 keepsMemory (Set t) = true
 keepsMemory (Mode e k) = true
-keepsMemory (Show b) = true
+keepsMemory (DisplayMode b) = true
 keepsMemory (Height h) = true
 keepsMemory (Run a) = true
 keepsMemory (Store v) = false
@@ -69,7 +69,7 @@ module _ (p : Panel) (rom : List ℕ) (s : Machine) where
   display-kept (Set target.GraphicHome) e = absurd (false≢true e)
   display-kept (Set target.GraphicArea) e = absurd (false≢true e)
   display-kept (Mode f k) e = absurd (false≢true e)
-  display-kept (Show b) e = absurd (false≢true e)
+  display-kept (DisplayMode b) e = absurd (false≢true e)
   display-kept (Height h) e = absurd (false≢true e)
   display-kept (Run a) e = refl
   display-kept (Store v) e = refl
@@ -81,7 +81,7 @@ module _ (p : Panel) (rom : List ℕ) (s : Machine) where
   pub memory-kept : (k : Command) → keepsMemory k ≡ true → effectOf p rom s k .memory ≡ s .memory
   memory-kept (Set t) e = refl
   memory-kept (Mode f k) e = refl
-  memory-kept (Show b) e = refl
+  memory-kept (DisplayMode b) e = refl
   memory-kept (Height h) e = refl
   memory-kept (Run a) e = refl
   memory-kept (Store v) e = absurd (false≢true e)
@@ -139,7 +139,7 @@ module _ (p : Panel) (rom : List ℕ) (s : Machine) (k : Sounds s) where
   pub effect-displaying : (c : Command) → Sound (Defined c) → Displaying (effectOf p rom s c .registers .display .cursor) (effectOf p rom s c .registers .display .offset)
   effect-displaying (Set t) h = set-displaying t (s .registers .bus .pending .older) (s .registers .bus .pending .newest)
   effect-displaying (Mode e q) h = k .display
-  effect-displaying (Show b) h = k .display
+  effect-displaying (DisplayMode b) h = k .display
   effect-displaying (Height n) (height l m) =
       record { x = k .display .x; y = k .display .y; offset = k .display .offset; some-height = l; height = m }
   effect-displaying (Run a) h = k .display
@@ -160,7 +160,7 @@ module _ (p : Panel) (rom : List ℕ) (s : Machine) (k : Sounds s) where
   pub effect-long : (c : Command) → length (effectOf p rom s c .memory) ≡ length (s .memory)
   effect-long (Set t) = refl
   effect-long (Mode e q) = refl
-  effect-long (Show b) = refl
+  effect-long (DisplayMode b) = refl
   effect-long (Height h) = refl
   effect-long (Run a) = refl
   effect-long (Store v) = length-set (s .memory) _ _
@@ -181,7 +181,7 @@ module _ (p : Panel) (rom : List ℕ) (s : Machine) (k : Sounds s) where
   command-sound (Defined c) h = obey-sound c h
   command-sound Undefined h = tt
 
-  write-sound : (a : Auto) (b : ℕ) → Leaves Sounds (writeOf a s b)
+  write-sound : (a : Auto) (b : ℕ) → Leaves Sounds (dataWriteOf a s b)
   write-sound Off b = record { display = k .display; bus = pushed-bussing (s .registers .bus .pending) b (k .bus); memory = k .memory }
   write-sound Write b =
       record {
@@ -191,7 +191,7 @@ module _ (p : Panel) (rom : List ℕ) (s : Machine) (k : Sounds s) where
       }
   write-sound Read b = tt
 
-  read-sound : (a : Auto) → Leaves Sounds (readOf a s)
+  read-sound : (a : Auto) → Leaves Sounds (dataReadOf a s)
   read-sound Off = k
   read-sound Write = tt
   read-sound Read =
@@ -202,7 +202,7 @@ module _ (p : Panel) (rom : List ℕ) (s : Machine) (k : Sounds s) where
   step-sound q = go (eqb (q .kind) 0) (eqb (q .kind) 1) (eqb (q .kind) 2) (eqb (q .kind) 3) (eqb (q .kind) 4)
     where
       go : (a b c d e : Bool)
-          → Leaves Sounds (cond a (writeOf (s .registers .bus .auto) s (q .byte)) (cond b (commandOf p rom s (decodeOf (q .byte))) (cond c (readOf (s .registers .bus .auto) s) (cond d (answered s (statusOf (s .registers))) (cond e (done (tickOf s)) (refused 3))))))
+          → Leaves Sounds (cond a (dataWriteOf (s .registers .bus .auto) s (q .byte)) (cond b (commandOf p rom s (decodeOf (q .byte))) (cond c (dataReadOf (s .registers .bus .auto) s) (cond d (answered s (statusOf (s .registers))) (cond e (done (tickOf s)) (refused 3))))))
       go true b c d e = write-sound (s .registers .bus .auto) (q .byte)
       go false true c d e = command-sound (decodeOf (q .byte)) (decode-sound (q .byte))
       go false false true d e = read-sound (s .registers .bus .auto)

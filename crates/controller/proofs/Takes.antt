@@ -11,9 +11,9 @@ use Rattle.ground.specs.Bytes.{withBit, wordOf}
 use Rattle.ground.specs.Lists.{stored}
 use Rattle.state.specs.State.{none}
 use Rattle.codes.specs.Command.{decodeOf}
-use Rattle.controller.specs.Types.{Panel, Shows, Combination, Display, Auto, Off, Write, Bus, Registers, Target, Set, Mode, Show, Height, Run, Bit, Decoded, Defined, Up}
+use Rattle.controller.specs.Types.{Panel, DisplayBits, Combination, Display, Auto, Off, Write, Bus, Registers, Target, Set, Mode, DisplayMode, Height, Run, Bit, Decoded, Defined, Up}
 use Rattle.codes.specs.declared.command.Target.the-variants as target
-use Rattle.effects.specs.Effect.{withMode, withShows, withCursor, movedOf, setOf}
+use Rattle.effects.specs.Effect.{withMode, withDisplayBits, withCursor, movedOf, setOf}
 use Rattle.controller.specs.Access.{Pair, datum, code, Step, done, answered, refused, commandOf, stepOf}
 use Rattle.effects.specs.Machine.{Machine, machine}
 use Rattle.controller.specs.Run.{Standing, turnOf, Run as Running, afterTurn, runFrom, short}
@@ -100,8 +100,8 @@ module _ (p : Panel) (rom : List ℕ) where
         → Takes (stepOf p rom) (code k ∷ []) (resting d pointer latch error mem) (resting (withMode d e q) pointer latch error mem)
     mode-taken k h = takes-one (ap (commandOf p rom _) h)
 
-    pub show-taken : (k : ℕ) {b : Shows} → decodeOf k ≡ Defined (Show b)
-        → Takes (stepOf p rom) (code k ∷ []) (resting d pointer latch error mem) (resting (withShows d b) pointer latch error mem)
+    pub show-taken : (k : ℕ) {b : DisplayBits} → decodeOf k ≡ Defined (DisplayMode b)
+        → Takes (stepOf p rom) (code k ∷ []) (resting d pointer latch error mem) (resting (withDisplayBits d b) pointer latch error mem)
     show-taken k h = takes-one (ap (commandOf p rom _) h)
 
     pub height-taken : (k : ℕ) {h : ℕ} → decodeOf k ≡ Defined (Height h)

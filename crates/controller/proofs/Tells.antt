@@ -11,8 +11,8 @@ use Rattle.ground.specs.Bytes.{wordOf, withBit}
 use Rattle.state.specs.State.{none}
 use Rattle.codes.specs.Command.{has, groupOf, decodeOf, neededOf, isOff, endsAuto}
 use Rattle.codes.specs.declared.command.Target.the-variants as target
-use Rattle.controller.specs.Types.{Panel, Shows, Or, Exor, And, Attribute, Combination, Display, Auto, Off, Bus, Command, Set, Mode, Show, Height, Run, Store, Load, Bit, Decoded, Defined, Undefined, Move, Told, Drawn}
-use Rattle.effects.specs.Effect.{withMode, withShows, withCursor, withPointer, withAuto, withLatch, withPending, movedOf}
+use Rattle.controller.specs.Types.{Panel, DisplayBits, Or, Exor, And, Attribute, Combination, Display, Auto, Off, Bus, Command, Set, Mode, DisplayMode, Height, Run, Store, Load, Bit, Decoded, Defined, Undefined, Move, Told, Drawn}
+use Rattle.effects.specs.Effect.{withMode, withDisplayBits, withCursor, withPointer, withAuto, withLatch, withPending, movedOf}
 use Rattle.controller.specs.Access.{code, Step, done, refused, effectOf, dropped, commandOf, stepOf}
 use Rattle.effects.specs.Machine.{machine}
 use Rattle.controller.specs.Ready.{Tells, Draws}
@@ -120,12 +120,12 @@ module _ {d : Display} {still : Bool} {k : ℕ} where
         }
 
     pub draws-show : k / 16 ≡ 9
-        → Draws d still k (record { display = withShows d (record { graphic = has (k % 16) 3; text = has (k % 16) 2; cursor = has (k % 16) 1; blink = has (k % 16) 0 }); done = true })
+        → Draws d still k (record { display = withDisplayBits d (record { graphic = has (k % 16) 3; text = has (k % 16) 2; cursor = has (k % 16) 1; blink = has (k % 16) 0 }); done = true })
     draws-show h =
         record {
           quiet = λ f. q;
           acts = λ f b o p rom mem.
-              taken p rom mem d b k (Show (record { graphic = has (k % 16) 3; text = has (k % 16) 2; cursor = has (k % 16) 1; blink = has (k % 16) 0 }))
+              taken p rom mem d b k (DisplayMode (record { graphic = has (k % 16) 3; text = has (k % 16) 2; cursor = has (k % 16) 1; blink = has (k % 16) 0 }))
               (ap (λ (m : ℕ). groupOf m (k % 16)) h) o (omega arith);
         }
 

@@ -12,7 +12,7 @@ use Rattle.ground.proofs.Tests.{cond-has, either}
 use Rattle.codes.specs.Command.{neededOf, isOff, endsAuto, decodeOf}
 use Rattle.controller.specs.Types.{Panel, Registers, Auto, Off, Write, Read, Command, Decoded, Defined, Undefined, Acted, Turned}
 use Rattle.effects.specs.Effect.{statusOf}
-use Rattle.controller.specs.Access.{Pair, Step, done, answered, refused, effectOf, dropped, obeyOf, commandOf, writeOf, readOf, tickOf, stepOf, Accessed, replied, accessed, actedOf}
+use Rattle.controller.specs.Access.{Pair, Step, done, answered, refused, effectOf, dropped, obeyOf, commandOf, dataWriteOf, dataReadOf, tickOf, stepOf, Accessed, replied, accessed, actedOf}
 use Rattle.effects.specs.Machine.{Machine, machine}
 use Rattle.controller.specs.Run.{went, halted, turnOf}
 use Rattle.controller.specs.Ready.{standing, turnedAll, turnedOf, takenOf, AnsweredAll, answeredAll, answeredOf}
@@ -28,12 +28,12 @@ pub data Acting : Step Machine → Type 0 where
   refuses : {n : ℕ} → Acting (refused (suc n))
 
 module _ (p : Panel) (rom : List ℕ) (s : Machine) where
-  pub read-answering : (a : Auto) → Answering s (readOf a s)
+  pub read-answering : (a : Auto) → Answering s (dataReadOf a s)
   read-answering Off = answers
   read-answering Write = declines
   read-answering Read = answers
 
-  pub write-acting : (a : Auto) (b : ℕ) → Acting (writeOf a s b)
+  pub write-acting : (a : Auto) (b : ℕ) → Acting (dataWriteOf a s b)
   write-acting Off b = acts
   write-acting Write b = acts
   write-acting Read b = refuses
@@ -60,7 +60,7 @@ module _ (p : Panel) (rom : List ℕ) (s : Machine) where
   step-acting k b e = go (eqb k 2) (eqb k 3) e
     where
       go : (t u : Bool) → (t || u) ≡ false
-          → Acting (cond (eqb k 0) (writeOf (s .registers .bus .auto) s b) (cond (eqb k 1) (commandOf p rom s (decodeOf b)) (cond t (readOf (s .registers .bus .auto) s) (cond u (answered s (statusOf (s .registers))) (cond (eqb k 4) (done (tickOf s)) (refused 3))))))
+          → Acting (cond (eqb k 0) (dataWriteOf (s .registers .bus .auto) s b) (cond (eqb k 1) (commandOf p rom s (decodeOf b)) (cond t (dataReadOf (s .registers .bus .auto) s) (cond u (answered s (statusOf (s .registers))) (cond (eqb k 4) (done (tickOf s)) (refused 3))))))
       go true u h = absurd (true≢false h)
       go false true h = absurd (true≢false h)
       go false false h =

@@ -8,13 +8,13 @@ use Rattle.effects.specs.Machine.{Machine, machine}
 use Rattle.sight.specs.Sight.{peekOf, copyOf}
 use Rattle.ground.specs.Bytes.{withBit}
 use Rattle.ground.specs.Lists.{build, stored}
-use Rattle.controller.specs.Types.{Panel, Auto, Off, Write, Read, Bus, Registers, Command, Set, Mode, Show, Height, Run, Store, Load, Peek, Copy, Bit, Decoded, Defined, Undefined, Up, Position, At, Nowhere, Acted}
+use Rattle.controller.specs.Types.{Panel, Auto, Off, Write, Read, Bus, Registers, Command, Set, Mode, DisplayMode, Height, Run, Store, Load, Peek, Copy, Bit, Decoded, Defined, Undefined, Up, Position, At, Nowhere, Acted}
 use Rattle.state.specs.State.{validPanel, validRegisters, none}
 use Rattle.display.specs.Displayed.{addressOf, displayedByte}
 use Rattle.state.specs.Combination.{isAttribute}
 use Rattle.display.specs.Frame.{lentLengths}
 use Rattle.codes.specs.Command.{decodeOf, neededOf, isOff, endsAuto}
-use Rattle.effects.specs.Effect.{withDisplay, withBus, withMode, withShows, withCursor, withPhase, withPointer, withAuto, withPending, withLatch, withError, pushed, movedOf, setOf, statusOf}
+use Rattle.effects.specs.Effect.{withDisplay, withBus, withMode, withDisplayBits, withCursor, withPhase, withPointer, withAuto, withPending, withLatch, withError, pushed, movedOf, setOf, statusOf}
 use Rattle.sight.specs.Position.{positionOf}
 
 -- a pair is a kind and a byte
@@ -41,8 +41,8 @@ effectOf p rom s (Set t) =
     machine (setOf t (s .registers .bus .pending .older) (s .registers .bus .pending .newest) (s .registers)) (s .memory)
 effectOf p rom s (Mode e k) =
     machine (withDisplay (s .registers) (withMode (s .registers .display) e k)) (s .memory)
-effectOf p rom s (Show b) =
-    machine (withDisplay (s .registers) (withShows (s .registers .display) b)) (s .memory)
+effectOf p rom s (DisplayMode b) =
+    machine (withDisplay (s .registers) (withDisplayBits (s .registers .display) b)) (s .memory)
 effectOf p rom s (Height h) =
     machine (withDisplay (s .registers) (withCursor (s .registers .display) (record { x = s .registers .display .cursor .x; y = s .registers .display .cursor .y; height = h }))) (s .memory)
 effectOf p rom s (Run a) =
@@ -77,18 +77,18 @@ commandOf p rom s Undefined = refused 4
 commandOf p rom s (Defined k) = obeyOf p rom s k
 
 -- auto off: pending; in auto write stored at the pointer, which then moves by +1; in auto read 7
-abbrev pub writeOf : Auto → Machine → ℕ → Step Machine
-writeOf Off s b =
+abbrev pub dataWriteOf : Auto → Machine → ℕ → Step Machine
+dataWriteOf Off s b =
     done (machine (withBus (s .registers) (withPending (s .registers .bus) (pushed (s .registers .bus .pending) b))) (s .memory))
-writeOf Write s b =
+dataWriteOf Write s b =
     done (machine (withBus (s .registers) (withPointer (s .registers .bus) (movedOf Up (s .registers .bus .pointer)))) (set (s .memory) (s .registers .bus .pointer) b))
-writeOf Read s b = refused 7
+dataWriteOf Read s b = refused 7
 
 -- auto off: the latch, unchanged; in auto read the byte at the pointer, then +1, the latch stays; in auto write 7
-abbrev pub readOf : Auto → Machine → Step Machine
-readOf Off s = answered s (s .registers .bus .latch)
-readOf Write s = refused 7
-readOf Read s =
+abbrev pub dataReadOf : Auto → Machine → Step Machine
+dataReadOf Off s = answered s (s .registers .bus .latch)
+dataReadOf Write s = refused 7
+dataReadOf Read s =
     answered (machine (withBus (s .registers) (withPointer (s .registers .bus) (movedOf Up (s .registers .bus .pointer)))) (s .memory))
     (getD (s .memory) (s .registers .bus .pointer) 0)
 
@@ -99,9 +99,9 @@ tickOf s = machine (withDisplay (s .registers) (withPhase (s .registers .display
 -- 0 data write, 1 command, 2 data read, 3 status read, 4 blink tick; 3 for a kind above 4
 abbrev pub stepOf : Panel → List ℕ → Machine → Pair → Step Machine
 stepOf p rom s q =
-    cond (eqb (q .kind) 0) (writeOf (s .registers .bus .auto) s (q .byte))
+    cond (eqb (q .kind) 0) (dataWriteOf (s .registers .bus .auto) s (q .byte))
     (cond (eqb (q .kind) 1) (commandOf p rom s (decodeOf (q .byte)))
-    (cond (eqb (q .kind) 2) (readOf (s .registers .bus .auto) s)
+    (cond (eqb (q .kind) 2) (dataReadOf (s .registers .bus .auto) s)
     (cond (eqb (q .kind) 3) (answered s (statusOf (s .registers)))
     (cond (eqb (q .kind) 4) (done (tickOf s))
     (refused 3)))))

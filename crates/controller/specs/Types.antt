@@ -2,7 +2,7 @@
 pub use Rattle.state.specs.declared.panel.Panel.{Panel}
 pub use Rattle.state.specs.declared.registers.Plane.{Plane}
 pub use Rattle.state.specs.declared.registers.Cursor.{Cursor}
-pub use Rattle.state.specs.declared.registers.Shows.{Shows}
+pub use Rattle.state.specs.declared.registers.DisplayBits.{DisplayBits}
 pub use Rattle.state.specs.declared.registers.Combination.{Combination}
 pub use Rattle.state.specs.declared.registers.Combination.the-variants.{Or, Exor, And, Attribute}
 pub use Rattle.state.specs.declared.registers.Display.{Display}
@@ -15,7 +15,7 @@ pub use Rattle.codes.specs.declared.command.Target.{Target}
 pub use Rattle.codes.specs.declared.command.Move.{Move}
 pub use Rattle.codes.specs.declared.command.Move.the-variants.{Up, Down, Stay}
 pub use Rattle.codes.specs.declared.command.Command.{Command}
-pub use Rattle.codes.specs.declared.command.Command.the-variants.{Set, Mode, Show, Height, Run, Store, Load, Peek, Copy, Bit}
+pub use Rattle.codes.specs.declared.command.Command.the-variants.{Set, Mode, DisplayMode, Height, Run, Store, Load, Peek, Copy, Bit}
 pub use Rattle.codes.specs.declared.decode.Decoded.{Decoded}
 pub use Rattle.codes.specs.declared.decode.Decoded.the-variants.{Defined, Undefined}
 pub use Rattle.sight.specs.declared.position.Position.{Position}

@@ -5,7 +5,7 @@ ghost use lib.ListN.{length};
 ghost use Rattle.state.specs.State.{none};
 ghost use Rattle.codes.specs.Command.{decodeOf};
 ghost use Rattle.effects.specs.Machine.{machine};
-ghost use Rattle.controller.specs.Access.{effectOf, dropped, obeyOf, commandOf, writeOf, readOf, stepOf, replied, actedOf, accessOf};
+ghost use Rattle.controller.specs.Access.{effectOf, dropped, obeyOf, commandOf, dataWriteOf, dataReadOf, stepOf, replied, actedOf, accessOf};
 ghost use Rattle.effects.specs.Effect.{withDisplay, withBus, withPhase, withPending, statusOf};
 ghost use Rattle.sight.specs.Ready.{Ready};
 use sight::copy::copy;
@@ -72,8 +72,8 @@ fn effect(
             next.display = display;
             next
         }
-        Command::Show(shows) => {
-            display.shows = shows;
+        Command::DisplayMode(bits) => {
+            display.bits = bits;
             next.display = display;
             next
         }
@@ -166,7 +166,7 @@ fn command(panel: Panel, registers: Registers, mem: &mut [u8], rom: &[u8], code:
 
 fn data_write(auto: Auto, registers: Registers, mem: &mut [u8], byte: u8) -> Acted
     requires { ⌜ length (now mem) ≡ 65536 ⌝ }
-    ensures { λ r. ⌜ replied r (now (mem .exit)) ≡ actedOf registers (now (mem .entry)) (writeOf auto (machine registers (now (mem .entry))) byte) ⌝ }
+    ensures { λ r. ⌜ replied r (now (mem .exit)) ≡ actedOf registers (now (mem .entry)) (dataWriteOf auto (machine registers (now (mem .entry))) byte) ⌝ }
 {
     let mut next = registers;
     let mut bus = registers.bus;
@@ -202,7 +202,7 @@ fn data_write(auto: Auto, registers: Registers, mem: &mut [u8], byte: u8) -> Act
 
 fn data_read(auto: Auto, registers: Registers, mem: &[u8]) -> Acted
     requires { ⌜ length (now mem) ≡ 65536 ⌝ }
-    ensures { λ r. ⌜ replied r (now (mem .entry)) ≡ actedOf registers (now (mem .entry)) (readOf auto (machine registers (now (mem .entry)))) ⌝ }
+    ensures { λ r. ⌜ replied r (now (mem .entry)) ≡ actedOf registers (now (mem .entry)) (dataReadOf auto (machine registers (now (mem .entry)))) ⌝ }
 {
     let mut next = registers;
     let mut bus = registers.bus;

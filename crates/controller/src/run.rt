@@ -16,7 +16,7 @@ use effects::effect::is_read;
 use effects::effect::is_write;
 use effects::effect::push;
 use crate::store::put;
-use effects::effect::state;
+use effects::effect::bus_status;
 use effects::effect::with_auto;
 use effects::effect::with_mode;
 use codes::command::Move;
@@ -28,7 +28,7 @@ use state::registers::Combination;
 use state::registers::Display;
 use state::registers::Pending;
 use state::registers::Registers;
-use state::registers::Shows;
+use state::registers::DisplayBits;
 use ground::bytes::lesser;
 use ground::bytes::word;
 
@@ -263,13 +263,13 @@ fn draw(display: Display, quiet: bool, code: u8) -> Drawn
                 }
             }
             9 => {
-                let shows = Shows {
+                let bits = DisplayBits {
                     graphic: (low >> 3) % 2 == 1,
                     text: (low >> 2) % 2 == 1,
                     cursor: (low >> 1) % 2 == 1,
                     blink: (low >> 0) % 2 == 1,
                 };
-                next.shows = shows;
+                next.bits = bits;
                 Drawn {
                     display: next,
                     done: true,
@@ -368,7 +368,7 @@ fn pairs(
         }
         let room = given < answers.len();
         if (kind == 3) & room {
-            answers[given] = state(bus, display.phase);
+            answers[given] = bus_status(bus, display.phase);
             given += 1;
             i += 1;
             continue;

@@ -23,25 +23,25 @@ module _ (p : Panel) (d : Display) (mem rom : List ℕ) (r c : ℕ) where
   pub text-lt : textDots p d mem rom r c < 2 ^ p .width
   unfolding textDots
   text-lt =
-      cond-lt (p .width) (d .shows .text) _ 0
-      (cond-lt (p .width) (isAttribute (d .combination) && d .shows .graphic) _ _ (attributed-lt (p .width) (d .phase) _ _ glyph-lt) glyph-lt)
+      cond-lt (p .width) (d .bits .text) _ 0
+      (cond-lt (p .width) (isAttribute (d .combination) && d .bits .graphic) _ _ (attributed-lt (p .width) (d .phase) _ _ glyph-lt) glyph-lt)
       (pow-pos (p .width))
 
   pub graphic-lt : graphicDots p d mem r c < 2 ^ p .width
   unfolding graphicDots
   graphic-lt =
-      cond-lt (p .width) (d .shows .graphic && not (isAttribute (d .combination))) _ 0 (mod-lt _ (pow-pos (p .width))) (pow-pos (p .width))
+      cond-lt (p .width) (d .bits .graphic && not (isAttribute (d .combination))) _ 0 (mod-lt _ (pow-pos (p .width))) (pow-pos (p .width))
 
   pub displayed-lt : displayedByte p d mem rom r c < 2 ^ p .width
   unfolding displayedByte
   displayed-lt =
-      cond-lt (p .width) (d .shows .text) _ _
-      (cond-lt (p .width) (d .shows .graphic) _ _ (combined-lt (p .width) (d .combination) _ _ text-lt graphic-lt) text-lt)
+      cond-lt (p .width) (d .bits .text) _ _
+      (cond-lt (p .width) (d .bits .graphic) _ _ (combined-lt (p .width) (d .combination) _ _ text-lt graphic-lt) text-lt)
       graphic-lt
 
   pub cell-lt : cellByte p d mem rom r c < 2 ^ p .width
   unfolding cellByte
   cell-lt =
       cond-lt (p .width)
-      (cursorLit (d .shows .cursor) (d .shows .blink) (d .phase) && cursorCovers p (d .cursor) (r / 8) (r % 8) c) _ _
+      (cursorLit (d .bits .cursor) (d .bits .blink) (d .phase) && cursorCovers p (d .cursor) (r / 8) (r % 8) c) _ _
       (ones-lt (p .width)) displayed-lt

@@ -28,18 +28,18 @@ attribute-byte d mem l c e f = cc
 
 module _ (p : Panel) (d : Display) (mem : List ℕ) (r c : ℕ) where
   -- what the code tests for the graphic layer
-  shows-graphic : {b : Bool} (v : Bool) → b ≡ isAttribute (d .combination) → (d .shows .graphic && not b) ≡ v
-      → (d .shows .graphic && not (isAttribute (d .combination))) ≡ v
-  shows-graphic v i e = sym (λ k. d .shows .graphic && not (i k)) ∙ e
+  shows-graphic : {b : Bool} (v : Bool) → b ≡ isAttribute (d .combination) → (d .bits .graphic && not b) ≡ v
+      → (d .bits .graphic && not (isAttribute (d .combination))) ≡ v
+  shows-graphic v i e = sym (λ k. d .bits .graphic && not (i k)) ∙ e
 
-  pub graphic-on : {b : Bool} {at n x : ℕ} → b ≡ isAttribute (d .combination) → (d .shows .graphic && not b) ≡ true
+  pub graphic-on : {b : Bool} {at n x : ℕ} → b ≡ isAttribute (d .combination) → (d .bits .graphic && not b) ≡ true
       → at ≡ addressOf (d .graphic) r c → n ≡ getD mem at 0 → x ≡ n % 2 ^ p .width → x ≡ graphicDots p d mem r c
   unfolding graphicDots graphicByte
   graphic-on i e f h k =
       k ∙ (λ q. (h ∙ ap (λ (m : ℕ). getD mem m 0) f) q % 2 ^ p .width)
       ∙ sym (ap (λ (v : Bool). cond v (getD mem (addressOf (d .graphic) r c) 0 % 2 ^ p .width) 0) (shows-graphic true i e))
 
-  pub graphic-off : {b : Bool} → b ≡ isAttribute (d .combination) → (d .shows .graphic && not b) ≡ false → 0 ≡ graphicDots p d mem r c
+  pub graphic-off : {b : Bool} → b ≡ isAttribute (d .combination) → (d .bits .graphic && not b) ≡ false → 0 ≡ graphicDots p d mem r c
   unfolding graphicDots
   graphic-off i e = sym (ap (λ (v : Bool). cond v (graphicByte d mem r c % 2 ^ p .width) 0) (shows-graphic false i e))
 
@@ -49,32 +49,32 @@ module _ (p : Panel) (d : Display) (mem rom : List ℕ) (r c : ℕ) where
   unfolding glyphDots textCode
   glyph-dots e f h k = cc
 
-  pub text-off : not (d .shows .text) ≡ true → 0 ≡ textDots p d mem rom r c
+  pub text-off : not (d .bits .text) ≡ true → 0 ≡ textDots p d mem rom r c
   unfolding textDots
-  text-off e = layer-off (d .shows .text) (d .shows .graphic) (isAttribute (d .combination)) _ _ e
+  text-off e = layer-off (d .bits .text) (d .bits .graphic) (isAttribute (d .combination)) _ _ e
 
-  pub text-plain : {b : Bool} {x : ℕ} → not (d .shows .text) ≡ false → b ≡ isAttribute (d .combination)
-      → (b && d .shows .graphic) ≡ false → x ≡ glyphDots p d mem rom r c → x ≡ textDots p d mem rom r c
+  pub text-plain : {b : Bool} {x : ℕ} → not (d .bits .text) ≡ false → b ≡ isAttribute (d .combination)
+      → (b && d .bits .graphic) ≡ false → x ≡ glyphDots p d mem rom r c → x ≡ textDots p d mem rom r c
   unfolding textDots
   text-plain e i f h =
-      h ∙ layer-plain (d .shows .text) (d .shows .graphic) (isAttribute (d .combination)) _ _ e (sym (λ k. i k && d .shows .graphic) ∙ f)
+      h ∙ layer-plain (d .bits .text) (d .bits .graphic) (isAttribute (d .combination)) _ _ e (sym (λ k. i k && d .bits .graphic) ∙ f)
 
-  pub text-attributed : {b : Bool} {a x y : ℕ} → not (d .shows .text) ≡ false → b ≡ isAttribute (d .combination)
-      → (b && d .shows .graphic) ≡ true → a ≡ attributeByte d mem (r / 8) c → x ≡ glyphDots p d mem rom r c
+  pub text-attributed : {b : Bool} {a x y : ℕ} → not (d .bits .text) ≡ false → b ≡ isAttribute (d .combination)
+      → (b && d .bits .graphic) ≡ true → a ≡ attributeByte d mem (r / 8) c → x ≡ glyphDots p d mem rom r c
       → y ≡ attributed (p .width) (d .phase) a x → y ≡ textDots p d mem rom r c
   unfolding textDots
   text-attributed e i f j k l =
       l ∙ (λ q. attributed (p .width) (d .phase) (j q) (k q))
-      ∙ layer-shown (d .shows .text) (d .shows .graphic) (isAttribute (d .combination)) _ _ e (sym (λ q. i q && d .shows .graphic) ∙ f)
+      ∙ layer-shown (d .bits .text) (d .bits .graphic) (isAttribute (d .combination)) _ _ e (sym (λ q. i q && d .bits .graphic) ∙ f)
 
   pub shown : {t g x : ℕ} → t ≡ textDots p d mem rom r c → g ≡ graphicDots p d mem r c
-      → x ≡ mixed (d .shows .text) (d .shows .graphic) (d .combination) t g → x ≡ displayedByte p d mem rom r c
+      → x ≡ mixed (d .bits .text) (d .bits .graphic) (d .combination) t g → x ≡ displayedByte p d mem rom r c
   unfolding displayedByte
-  shown e f h = h ∙ (λ i. mixed (d .shows .text) (d .shows .graphic) (d .combination) (e i) (f i))
+  shown e f h = h ∙ (λ i. mixed (d .bits .text) (d .bits .graphic) (d .combination) (e i) (f i))
 
-  module _ {a b : Bool} (i : a ≡ cursorLit (d .shows .cursor) (d .shows .blink) (d .phase)) (j : b ≡ cursorCovers p (d .cursor) (r / 8) (r % 8) c) where
+  module _ {a b : Bool} (i : a ≡ cursorLit (d .bits .cursor) (d .bits .blink) (d .phase)) (j : b ≡ cursorCovers p (d .cursor) (r / 8) (r % 8) c) where
     laid : (v : Bool) → (a && b) ≡ v
-        → (cursorLit (d .shows .cursor) (d .shows .blink) (d .phase) && cursorCovers p (d .cursor) (r / 8) (r % 8) c) ≡ v
+        → (cursorLit (d .bits .cursor) (d .bits .blink) (d .phase) && cursorCovers p (d .cursor) (r / 8) (r % 8) c) ≡ v
     laid v e = sym (λ k. i k && j k) ∙ e
 
     pub cell-cursor : {n : ℕ} → (a && b) ≡ true → n ≡ 2 ^ p .width - 1 → n ≡ cellByte p d mem rom r c

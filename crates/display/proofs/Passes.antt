@@ -19,7 +19,7 @@ use Rattle.ground.specs.Packing.{rowBytes, rowFrom, packOf}
 use Rattle.ground.proofs.Filling.{Filled, none-yet, one-more}
 use Rattle.ground.proofs.Packs.{packed-by-rule}
 use Rattle.ground.proofs.Tests.{both-right}
-use Rattle.display.specs.Types.{Panel, Plane, Display, Combination, Or, Exor, And, Attribute, Show, Normal, Reverse, Inhibit, Look}
+use Rattle.display.specs.Types.{Panel, Plane, Display, Combination, Or, Exor, And, Attribute, Manner, Normal, Reverse, Inhibit, Look}
 use Rattle.display.proofs.Bounds.{glyph-lt}
 use Rattle.display.proofs.Cases.{graphic-off, text-off, text-plain, text-attributed, cell-shown, cell-cursor}
 use Rattle.display.specs.Displayed.{addressOf, attributeByte, mixed, glyphDots, textDots, graphicDots, displayedByte, cursorLit, cursorCovers, cellByte}
@@ -80,10 +80,10 @@ module _ (p : Panel) (d : Display) (mem rom : List ℕ) (r : ℕ) where
   unfolding cellByte
   beside c n =
       sym (ap (λ (v : Bool). cond v (2 ^ p .width - 1) (displayedByte p d mem rom r c))
-      ((λ i. cursorLit (d .shows .cursor) (d .shows .blink) (d .phase) && (ltb (d .cursor .x) (p .columns) && ltb (d .cursor .y) (p .lines) && ne-eqb (d .cursor .x) c (λ e. n (sym e)) i && eqb (d .cursor .y) (r / 8) && leb (8 - d .cursor .height) (r % 8)))
-      ∙ none (cursorLit (d .shows .cursor) (d .shows .blink) (d .phase)) (ltb (d .cursor .x) (p .columns)) (ltb (d .cursor .y) (p .lines)) (eqb (d .cursor .y) (r / 8)) (leb (8 - d .cursor .height) (r % 8))))
+      ((λ i. cursorLit (d .bits .cursor) (d .bits .blink) (d .phase) && (ltb (d .cursor .x) (p .columns) && ltb (d .cursor .y) (p .lines) && ne-eqb (d .cursor .x) c (λ e. n (sym e)) i && eqb (d .cursor .y) (r / 8) && leb (8 - d .cursor .height) (r % 8)))
+      ∙ none (cursorLit (d .bits .cursor) (d .bits .blink) (d .phase)) (ltb (d .cursor .x) (p .columns)) (ltb (d .cursor .y) (p .lines)) (eqb (d .cursor .y) (r / 8)) (leb (8 - d .cursor .height) (r % 8))))
 
-  module _ {a b : Bool} (i : a ≡ cursorLit (d .shows .cursor) (d .shows .blink) (d .phase)) (j : b ≡ cursorCovers p (d .cursor) (r / 8) (r % 8) (d .cursor .x)) where
+  module _ {a b : Bool} (i : a ≡ cursorLit (d .bits .cursor) (d .bits .blink) (d .phase)) (j : b ≡ cursorCovers p (d .cursor) (r / 8) (r % 8) (d .cursor .x)) where
     -- the cursor's column is on the panel
     pub inside : (a && b) ≡ true → d .cursor .x < p .columns
     inside e =
@@ -141,7 +141,7 @@ shades-on {lit} {dark} {mem} {l₀} {l} {all} {start} {at} {n} {b} k h e f =
 
 module _ (w n : ℕ) (h : n < 2 ^ w) where
   -- over plain values: a row of the table made of the two
-  two-ways : (b : Bool) (s : Show)
+  two-ways : (b : Bool) (s : Manner)
       → bitOr (bitAnd n (cond b 0 (shownAs s w (2 ^ w - 1)))) (bitAnd (2 ^ w - 1 - n) (cond b 0 (shownAs s w 0))) ≡ cond b 0 (shownAs s w n)
   two-ways true s = λ i. bitOr (and-zero-r n i) (and-zero-r (2 ^ w - 1 - n) i)
   two-ways false Normal = (λ i. bitOr ((and-mask n w ∙ mod-eq-of-lt h) i) (and-zero-r (2 ^ w - 1 - n) i)) ∙ or-zero-r n
@@ -194,15 +194,15 @@ same-count f g xs ys {zs} {n} h e k = k ∙ ap (λ (m : ℕ). build m g) (ap len
 
 -- the text of a row: off, under attributes, or plain
 module _ (p : Panel) (d : Display) (mem rom : List ℕ) (r : ℕ) where
-  pub blank-text : (n : ℕ) {l : List ℕ} → not (d .shows .text) ≡ true → l ≡ build n (λ c. 0) → l ≡ build n (textDots p d mem rom r)
+  pub blank-text : (n : ℕ) {l : List ℕ} → not (d .bits .text) ≡ true → l ≡ build n (λ c. 0) → l ≡ build n (textDots p d mem rom r)
   blank-text n e h = h ∙ build-cong n _ _ (λ c k. text-off p d mem rom r c e)
 
-  pub plain-text : (n : ℕ) {b : Bool} {l : List ℕ} → not (d .shows .text) ≡ false → b ≡ isAttribute (d .combination)
-      → (b && d .shows .graphic) ≡ false → l ≡ build n (glyphDots p d mem rom r) → l ≡ build n (textDots p d mem rom r)
+  pub plain-text : (n : ℕ) {b : Bool} {l : List ℕ} → not (d .bits .text) ≡ false → b ≡ isAttribute (d .combination)
+      → (b && d .bits .graphic) ≡ false → l ≡ build n (glyphDots p d mem rom r) → l ≡ build n (textDots p d mem rom r)
   plain-text n e i f h = h ∙ build-cong n _ _ (λ c k. text-plain p d mem rom r c e i f refl)
 
-  pub shown-text : (xs ys : List ℕ) {b : Bool} {zs : List ℕ} → not (d .shows .text) ≡ false → b ≡ isAttribute (d .combination)
-      → (b && d .shows .graphic) ≡ true → ys ≡ build (length xs) (glyphDots p d mem rom r)
+  pub shown-text : (xs ys : List ℕ) {b : Bool} {zs : List ℕ} → not (d .bits .text) ≡ false → b ≡ isAttribute (d .combination)
+      → (b && d .bits .graphic) ≡ true → ys ≡ build (length xs) (glyphDots p d mem rom r)
       → zs ≡ build (length ys) (λ c. attributed (p .width) (d .phase) (attributeByte d mem (r / 8) c) (glyphDots p d mem rom r c))
       → zs ≡ build (length xs) (textDots p d mem rom r)
   shown-text xs ys e i f g h =
@@ -219,15 +219,15 @@ alone true false k x e h = refl
 alone false g k x e h = sym (h refl)
 
 pub text-alone : (p : Panel) (d : Display) (mem rom : List ℕ) (r : ℕ) {b : Bool} {l : List ℕ} → b ≡ isAttribute (d .combination)
-    → (d .shows .graphic && not b) ≡ false → l ≡ build (length l) (textDots p d mem rom r) → l ≡ build (length l) (displayedByte p d mem rom r)
+    → (d .bits .graphic && not b) ≡ false → l ≡ build (length l) (textDots p d mem rom r) → l ≡ build (length l) (displayedByte p d mem rom r)
 unfolding displayedByte
 text-alone p d mem rom r {b} {l} i e h = h ∙ build-cong (length l) (textDots p d mem rom r) (displayedByte p d mem rom r) (λ c k. each c)
   where
     each : (c : ℕ) → textDots p d mem rom r c ≡ displayedByte p d mem rom r c
     each c =
-        alone (d .shows .text) (d .shows .graphic) (d .combination) (textDots p d mem rom r c) (sym (λ j. d .shows .graphic && not (i j)) ∙ e)
+        alone (d .bits .text) (d .bits .graphic) (d .combination) (textDots p d mem rom r c) (sym (λ j. d .bits .graphic && not (i j)) ∙ e)
         (λ o. text-off p d mem rom r c o)
-        ∙ ap (λ (g : ℕ). mixed (d .shows .text) (d .shows .graphic) (d .combination) (textDots p d mem rom r c) g) (graphic-off p d mem r c i e)
+        ∙ ap (λ (g : ℕ). mixed (d .bits .text) (d .bits .graphic) (d .combination) (textDots p d mem rom r c) g) (graphic-off p d mem r c i e)
 
 -- cells laid into the front of an array, and packed from there
 module _ (C : ℕ) (f : ℕ → ℕ) (ys rest : List ℕ) (h : ys ≡ build C f) where

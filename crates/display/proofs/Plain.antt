@@ -18,7 +18,7 @@ plain text graphic offset k on blink cursor phase =
       offset = offset;
       combination = k;
       external = false;
-      shows = record { graphic = true; text = true; cursor = on; blink = blink };
+      bits = record { graphic = true; text = true; cursor = on; blink = blink };
       cursor = cursor;
       phase = phase;
     }

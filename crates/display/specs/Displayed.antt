@@ -42,14 +42,14 @@ textLayer text graphic attribute shown plain = cond text (cond (attribute && gra
 -- the text's w bits after attribute
 unfoldable pub textDots : Panel → Display → List ℕ → List ℕ → ℕ → ℕ → ℕ
 textDots p d mem rom r c =
-    textLayer (d .shows .text) (d .shows .graphic) (isAttribute (d .combination))
+    textLayer (d .bits .text) (d .bits .graphic) (isAttribute (d .combination))
     (attributed (p .width) (d .phase) (attributeByte d mem (r / 8) c) (glyphDots p d mem rom r c))
     (glyphDots p d mem rom r c)
 
 -- the graphic's w bits; 0 where graphic is off, and in attribute mode (H)
 unfoldable pub graphicDots : Panel → Display → List ℕ → ℕ → ℕ → ℕ
 graphicDots p d mem r c =
-    cond (d .shows .graphic && not (isAttribute (d .combination))) (graphicByte d mem r c % 2 ^ p .width) 0
+    cond (d .bits .graphic && not (isAttribute (d .combination))) (graphicByte d mem r c % 2 ^ p .width) 0
 
 -- both on: combined; one on: that one alone; neither: 0, as a layer that is off has no dots
 abbrev pub mixed : Bool → Bool → Combination → ℕ → ℕ → ℕ
@@ -57,7 +57,7 @@ mixed text graphic k t g = cond text (cond graphic (combined k t g) t) g
 
 unfoldable pub displayedByte : Panel → Display → List ℕ → List ℕ → ℕ → ℕ → ℕ
 displayedByte p d mem rom r c =
-    mixed (d .shows .text) (d .shows .graphic) (d .combination) (textDots p d mem rom r c) (graphicDots p d mem r c)
+    mixed (d .bits .text) (d .bits .graphic) (d .combination) (textDots p d mem rom r c) (graphicDots p d mem r c)
 
 -- X below C, Y below L: the cursor's cell, in its lowest rows, as many as its height (H)
 abbrev pub cursorCovers : Panel → Cursor → ℕ → ℕ → ℕ → Bool
@@ -71,6 +71,6 @@ cursorLit on blink normal = on && (not blink || normal)
 -- the cursor laid over: all dots set
 unfoldable pub cellByte : Panel → Display → List ℕ → List ℕ → ℕ → ℕ → ℕ
 cellByte p d mem rom r c =
-    cond (cursorLit (d .shows .cursor) (d .shows .blink) (d .phase) && cursorCovers p (d .cursor) (r / 8) (r % 8) c)
+    cond (cursorLit (d .bits .cursor) (d .bits .blink) (d .phase) && cursorCovers p (d .cursor) (r / 8) (r % 8) c)
     (2 ^ p .width - 1)
     (displayedByte p d mem rom r c)

@@ -5,7 +5,7 @@ use mathlib.Core.Bool.{Bool, cond, _&&_}
 use lib.Dec.{eqb}
 use lib.ListN.{length}
 use Rattle.ground.specs.Packing.{rowBytes, dotAt, rowFrom, frameFrom}
-use Rattle.display.specs.Types.{Panel, Display, Registers, Reply, Shown}
+use Rattle.display.specs.Types.{Panel, Display, Registers, Reply, Seen}
 use Rattle.state.specs.State.{validPanel, validDisplay, validRegisters}
 use Rattle.display.specs.Displayed.{displayedByte, cellByte}
 
@@ -50,12 +50,12 @@ paintOf p r mem rom frame =
     (painted (replyOf 2) frame))
     (painted (replyOf 1) frame)
 
-abbrev pub shownOf : ℕ → ℕ → Shown
-shownOf n byte = record { number = n; place = 0; byte = byte }
+abbrev pub seenOf : ℕ → ℕ → Seen
+seenOf n byte = record { number = n; place = 0; byte = byte }
 
 -- a displayed byte asked for by itself: 1, 2, or the byte
-unfoldable pub displayedOf : Panel → Display → List ℕ → List ℕ → ℕ → ℕ → Shown
+unfoldable pub displayedOf : Panel → Display → List ℕ → List ℕ → ℕ → ℕ → Seen
 displayedOf p d mem rom r c =
     cond (validPanel p && validDisplay d)
-    (cond (lentLengths mem rom) (shownOf 0 (displayedByte p d mem rom r c)) (shownOf 2 0))
-    (shownOf 1 0)
+    (cond (lentLengths mem rom) (seenOf 0 (displayedByte p d mem rom r c)) (seenOf 2 0))
+    (seenOf 1 0)

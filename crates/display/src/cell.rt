@@ -8,7 +8,7 @@ ghost use Rattle.display.specs.Displayed.{addressOf, glyphRow, glyphDots
 ghost use Rattle.state.specs.Attribute.{shownAs, attributed};
 ghost use Rattle.display.specs.Drawable.{Drawable};
 use state::attribute::Look;
-use state::attribute::Show;
+use state::attribute::Manner;
 use state::attribute::look_at;
 use state::combination::combine;
 use state::combination::is_attribute;
@@ -67,7 +67,7 @@ pub(crate) fn glyph(display: Display, mem: &[u8], rom: &[u8], code: u8, v: usize
 }
 
 // The w bits of a glyph row under a row of the table.
-pub(crate) fn shows(look: Look, width: usize, normal: bool, dots: u8) -> u8
+pub(crate) fn look_shows(look: Look, width: usize, normal: bool, dots: u8) -> u8
     requires { ⌜ ((width ≡ 6) ⊎ (width ≡ 8)) ⌝ }
     requires { ⌜ dots < 2 ^ width ⌝ }
     ensures { λ r. ⌜ r ≡ cond (look .blinks && not normal) 0 (shownAs (look .shown) width dots) ⌝ }
@@ -77,9 +77,9 @@ pub(crate) fn shows(look: Look, width: usize, normal: bool, dots: u8) -> u8
     }
     let shown = look.shown;
     match shown {
-        Show::Normal => dots,
-        Show::Reverse => full(width) - dots,
-        Show::Inhibit => 0,
+        Manner::Normal => dots,
+        Manner::Reverse => full(width) - dots,
+        Manner::Inhibit => 0,
     }
 }
 
@@ -89,7 +89,7 @@ fn attribute_shows(width: usize, normal: bool, attribute: u8, dots: u8) -> u8
     requires { ⌜ dots < 2 ^ width ⌝ }
     ensures { λ r. ⌜ r ≡ attributed width normal attribute dots ⌝ }
 {
-    shows(look_at(attribute), width, normal, dots)
+    look_shows(look_at(attribute), width, normal, dots)
 }
 
 // The w bits of a cell's glyph row.
@@ -127,12 +127,12 @@ fn text_dots(
     requires { ⌜ Drawable panel display (now mem) (now rom) ⌝ }
     ensures { λ r. ⌜ r ≡ textDots panel display (now (mem .entry)) (now (rom .entry)) row column ⌝ }
 {
-    if !display.shows.text {
+    if !display.bits.text {
         return 0;
     }
     let dots = glyph_dots(panel, display, mem, rom, row, column);
     let combination = display.combination;
-    if is_attribute(combination) & display.shows.graphic {
+    if is_attribute(combination) & display.bits.graphic {
         return attribute_shows(
             panel.width,
             display.phase,
@@ -149,7 +149,7 @@ fn graphic_dots(panel: Panel, display: Display, mem: &[u8], row: usize, column: 
     ensures { λ r. ⌜ r ≡ graphicDots panel display (now (mem .entry)) row column ⌝ }
 {
     let combination = display.combination;
-    if display.shows.graphic & !is_attribute(combination) {
+    if display.bits.graphic & !is_attribute(combination) {
         return low(
             panel.width,
             byte_at(mem, address(display.graphic, row, column)),
@@ -193,8 +193,8 @@ pub(crate) fn shown_byte(
     let graphic = graphic_dots(panel, display, mem, row, column);
     let combination = display.combination;
     mix(
-        display.shows.text,
-        display.shows.graphic,
+        display.bits.text,
+        display.bits.graphic,
         combination,
         text,
         graphic,

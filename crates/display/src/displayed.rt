@@ -6,7 +6,7 @@ use state::panel::Panel;
 use state::registers::Display;
 
 // A number, its place 0, and the byte, 0 where it was refused.
-pub struct Shown {
+pub struct Seen {
     pub number: u8,
     pub place: usize,
     pub byte: u8,
@@ -20,7 +20,7 @@ pub fn displayed(
     rom: &[u8],
     row: usize,
     column: usize,
-) -> Shown
+) -> Seen
     ensures { λ r. ⌜ r ≡ displayedOf panel display (now (mem .entry)) (now (rom .entry)) row column ⌝ }
 {
     let valid = panel.valid() & display.valid();
@@ -28,20 +28,20 @@ pub fn displayed(
         let fits = (mem.len() == 65536) & (rom.len() == 1024);
         if fits {
             let byte = shown_byte(panel, display, mem, rom, row, column);
-            Shown {
+            Seen {
                 number: 0,
                 place: 0,
                 byte,
             }
         } else {
-            Shown {
+            Seen {
                 number: 2,
                 place: 0,
                 byte: 0,
             }
         }
     } else {
-        Shown {
+        Seen {
             number: 1,
             place: 0,
             byte: 0,

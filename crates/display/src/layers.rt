@@ -15,7 +15,7 @@ use super::cell::full;
 use super::cell::glyph;
 use super::cell::low;
 use super::cell::mix;
-use super::cell::shows;
+use super::cell::look_shows;
 use state::combination::is_attribute;
 use state::panel::Panel;
 use state::registers::Display;
@@ -44,8 +44,8 @@ fn shades(width: usize, normal: bool, lit: &mut [u8], dark: &mut [u8])
     let all = full(width);
     for code in 0..16 {
         let look = looks[code];
-        lit[code] = shows(look, width, normal, all);
-        dark[code] = shows(look, width, normal, 0);
+        lit[code] = look_shows(look, width, normal, all);
+        dark[code] = look_shows(look, width, normal, 0);
     }
 }
 
@@ -96,13 +96,13 @@ pub(crate) fn lay_text(
     requires { ⌜ Drawable panel display (now mem) (now rom) ⌝ }
     ensures { λ _. ⌜ now (cells .exit) ≡ build (length (now (cells .entry))) (textDots panel display (now (mem .entry)) (now (rom .entry)) row) ⌝ }
 {
-    if !display.shows.text {
+    if !display.bits.text {
         clear(cells);
         return;
     }
     lay_glyphs(panel, display, mem, rom, row, cells);
     let combination = display.combination;
-    if is_attribute(combination) & display.shows.graphic {
+    if is_attribute(combination) & display.bits.graphic {
         lay_attributes(panel, display, mem, rom, row, cells);
     }
 }
@@ -121,14 +121,14 @@ pub(crate) fn lay_graphic(
     ensures { λ _. ⌜ now (cells .exit) ≡ build (length (now (cells .entry))) (displayedByte panel display (now (mem .entry)) (now (rom .entry)) row) ⌝ }
 {
     let combination = display.combination;
-    if display.shows.graphic & !is_attribute(combination) {
+    if display.bits.graphic & !is_attribute(combination) {
         let mut at = address(display.graphic, row, 0);
         for column in 0..cells.len() {
             let text = cells[column];
             let graphic = low(panel.width, byte_at(mem, at));
             cells[column] = mix(
-                display.shows.text,
-                display.shows.graphic,
+                display.bits.text,
+                display.bits.graphic,
                 combination,
                 text,
                 graphic,

@@ -21,7 +21,7 @@ fn lay_cursor(panel: Panel, display: Display, mem: &[u8], rom: &[u8], row: usize
     requires { ⌜ now cells ≡ build (panel .columns) (displayedByte panel display (now mem) (now rom) row) ⌝ }
     ensures { λ _. ⌜ now (cells .exit) ≡ build (panel .columns) (cellByte panel display (now (mem .entry)) (now (rom .entry)) row) ⌝ }
 {
-    let lit = cursor_lit(display.shows.cursor, display.shows.blink, display.phase);
+    let lit = cursor_lit(display.bits.cursor, display.bits.blink, display.phase);
     let x = display.cursor.x as usize;
     let covers = cursor_covers(panel, display.cursor, row / 8, row % 8, x);
     if lit & covers {

@@ -4,7 +4,7 @@ use mathlib.Core.Bool.{Bool, true, false, cond}
 use lib.Dec.{ltb}
 use lib.Bits.{bitOr}
 use Rattle.ground.specs.Bytes.{wordOf}
-use Rattle.effects.specs.Types.{Plane, Cursor, Shows, Combination, Display, Auto, Off, Write, Read, Pending, Bus, Registers, Move, Up, Down, Stay, Target}
+use Rattle.effects.specs.Types.{Plane, Cursor, DisplayBits, Combination, Display, Auto, Off, Write, Read, Pending, Bus, Registers, Move, Up, Down, Stay, Target}
 use Rattle.codes.specs.declared.command.Target.the-variants as target
 
 abbrev pub withDisplay : Registers → Display → Registers
@@ -14,25 +14,25 @@ abbrev pub withBus : Registers → Bus → Registers
 withBus r b = record { display = r .display; bus = b }
 
 abbrev pub withText : Display → Plane → Display
-withText d q = record { text = q; graphic = d .graphic; offset = d .offset; combination = d .combination; external = d .external; shows = d .shows; cursor = d .cursor; phase = d .phase }
+withText d q = record { text = q; graphic = d .graphic; offset = d .offset; combination = d .combination; external = d .external; bits = d .bits; cursor = d .cursor; phase = d .phase }
 
 abbrev pub withGraphic : Display → Plane → Display
-withGraphic d q = record { text = d .text; graphic = q; offset = d .offset; combination = d .combination; external = d .external; shows = d .shows; cursor = d .cursor; phase = d .phase }
+withGraphic d q = record { text = d .text; graphic = q; offset = d .offset; combination = d .combination; external = d .external; bits = d .bits; cursor = d .cursor; phase = d .phase }
 
 abbrev pub withOffset : Display → ℕ → Display
-withOffset d n = record { text = d .text; graphic = d .graphic; offset = n; combination = d .combination; external = d .external; shows = d .shows; cursor = d .cursor; phase = d .phase }
+withOffset d n = record { text = d .text; graphic = d .graphic; offset = n; combination = d .combination; external = d .external; bits = d .bits; cursor = d .cursor; phase = d .phase }
 
 abbrev pub withMode : Display → Bool → Combination → Display
-withMode d e k = record { text = d .text; graphic = d .graphic; offset = d .offset; combination = k; external = e; shows = d .shows; cursor = d .cursor; phase = d .phase }
+withMode d e k = record { text = d .text; graphic = d .graphic; offset = d .offset; combination = k; external = e; bits = d .bits; cursor = d .cursor; phase = d .phase }
 
-abbrev pub withShows : Display → Shows → Display
-withShows d s = record { text = d .text; graphic = d .graphic; offset = d .offset; combination = d .combination; external = d .external; shows = s; cursor = d .cursor; phase = d .phase }
+abbrev pub withDisplayBits : Display → DisplayBits → Display
+withDisplayBits d s = record { text = d .text; graphic = d .graphic; offset = d .offset; combination = d .combination; external = d .external; bits = s; cursor = d .cursor; phase = d .phase }
 
 abbrev pub withCursor : Display → Cursor → Display
-withCursor d k = record { text = d .text; graphic = d .graphic; offset = d .offset; combination = d .combination; external = d .external; shows = d .shows; cursor = k; phase = d .phase }
+withCursor d k = record { text = d .text; graphic = d .graphic; offset = d .offset; combination = d .combination; external = d .external; bits = d .bits; cursor = k; phase = d .phase }
 
 abbrev pub withPhase : Display → Bool → Display
-withPhase d n = record { text = d .text; graphic = d .graphic; offset = d .offset; combination = d .combination; external = d .external; shows = d .shows; cursor = d .cursor; phase = n }
+withPhase d n = record { text = d .text; graphic = d .graphic; offset = d .offset; combination = d .combination; external = d .external; bits = d .bits; cursor = d .cursor; phase = n }
 
 abbrev pub withPointer : Bus → ℕ → Bus
 withPointer b n = record { pointer = n; auto = b .auto; pending = b .pending; latch = b .latch; error = b .error }
@@ -91,8 +91,8 @@ autoBits Read = 0b0100
 autoBits Write = 0b1000
 
 -- and bit 5 always, bit 6 error, bit 7 phase normal, bit 4 clear (H but for bit 6)
-abbrev pub stateOf : Bus → Bool → ℕ
-stateOf b phase = bitOr (bitOr (bitOr (autoBits (b .auto)) 0x20) (cond (b .error) 0x40 0)) (cond phase 0x80 0)
+abbrev pub busStatus : Bus → Bool → ℕ
+busStatus b phase = bitOr (bitOr (bitOr (autoBits (b .auto)) 0x20) (cond (b .error) 0x40 0)) (cond phase 0x80 0)
 
 abbrev pub statusOf : Registers → ℕ
-statusOf r = stateOf (r .bus) (r .display .phase)
+statusOf r = busStatus (r .bus) (r .display .phase)

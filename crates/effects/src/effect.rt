@@ -3,7 +3,7 @@ ghost use mathlib.Core.Path.{_≡_};
 ghost use mathlib.Core.Bool.{cond};
 ghost use lib.Dec.{ltb};
 ghost use Prim.Native.Nat.{_+_, _%_};
-ghost use Rattle.effects.specs.Effect.{withMode, withAuto, pushed, movedOf, setOf, isWrite, isRead, autoBits, stateOf, statusOf};
+ghost use Rattle.effects.specs.Effect.{withMode, withAuto, pushed, movedOf, setOf, isWrite, isRead, autoBits, busStatus, statusOf};
 use codes::command::Move;
 use codes::command::Target;
 use state::registers::Auto;
@@ -20,7 +20,7 @@ pub fn with_mode(display: Display, external: bool, combination: Combination) -> 
 {
     let text = display.text;
     let graphic = display.graphic;
-    let shows = display.shows;
+    let bits = display.bits;
     let cursor = display.cursor;
     Display {
         text,
@@ -28,7 +28,7 @@ pub fn with_mode(display: Display, external: bool, combination: Combination) -> 
         offset: display.offset,
         combination,
         external,
-        shows,
+        bits,
         cursor,
         phase: display.phase,
     }
@@ -164,8 +164,8 @@ fn auto_bits(auto: Auto) -> u8
 }
 
 // The status byte, of the bus and the phase.
-pub fn state(bus: Bus, phase: bool) -> u8
-    ensures { λ r. ⌜ r ≡ stateOf bus phase ⌝ }
+pub fn bus_status(bus: Bus, phase: bool) -> u8
+    ensures { λ r. ⌜ r ≡ busStatus bus phase ⌝ }
 {
     let auto = bus.auto;
     auto_bits(auto) | 0x20 | when(bus.error, 0x40) | when(phase, 0x80)
@@ -176,5 +176,5 @@ pub fn status(registers: Registers) -> u8
 {
     let bus = registers.bus;
     let display = registers.display;
-    state(bus, display.phase)
+    bus_status(bus, display.phase)
 }

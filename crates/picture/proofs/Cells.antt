@@ -19,7 +19,7 @@ use Rattle.state.specs.declared.panel.Panel.{Panel}
 use Rattle.state.specs.Combination.{combined}
 use Rattle.picture.specs.declared.style.Style.{Style}
 use Rattle.picture.specs.Picture.{pictureGlyph, litIn, coveredBy, pictureCell}
-use Rattle.picture.specs.Layers.{glyphIn, textDots, graphicDots}
+use Rattle.picture.specs.Layers.{glyphIn, planeText, planeGraphic}
 use Rattle.picture.specs.Ready.{pictureWith}
 
 -- the lowest rows of a cell, as many as a height
@@ -31,24 +31,24 @@ lowest height v = go (decLt (v + height) 8)
     go (no l) = le-leb 8 (v + height) (omega arith) ∙ sym (le-leb (8 - height) v (omega arith))
 
 pub text-dots : (p : Panel) (rom codes glyphs : List ℕ) (r c : ℕ) {n x : ℕ} → n ≡ glyphIn rom glyphs (getD codes (r / 8 * p .columns + c) 0) (r % 8)
-    → x ≡ n % 2 ^ p .width → x ≡ textDots p rom codes glyphs r c
-unfolding textDots
+    → x ≡ n % 2 ^ p .width → x ≡ planeText p rom codes glyphs r c
+unfolding planeText
 text-dots p rom codes glyphs r c h k = k ∙ ap (λ (m : ℕ). m % 2 ^ p .width) h
 
 module _ (p : Panel) (rom graphic codes glyphs : List ℕ) (s : Style) (normal : Bool) (r c : ℕ)
     {a b : Bool} (i : a ≡ litIn (s .cursor) normal) (j : b ≡ coveredBy p (s .cursor) (r / 8) (r % 8) c) where
   cell-as : (v : Bool) → (a && b) ≡ v
-      → cond v (2 ^ p .width - 1) (combined (s .combination) (textDots p rom codes glyphs r c) (graphicDots p graphic r c))
+      → cond v (2 ^ p .width - 1) (combined (s .combination) (planeText p rom codes glyphs r c) (planeGraphic p graphic r c))
       ≡ pictureCell p rom (pictureWith graphic codes glyphs s) normal r c
-  unfolding pictureCell pictureGlyph textDots graphicDots glyphIn
+  unfolding pictureCell pictureGlyph planeText planeGraphic glyphIn
   cell-as v e =
-      ap (λ (t : Bool). cond t (2 ^ p .width - 1) (combined (s .combination) (textDots p rom codes glyphs r c) (graphicDots p graphic r c)))
+      ap (λ (t : Bool). cond t (2 ^ p .width - 1) (combined (s .combination) (planeText p rom codes glyphs r c) (planeGraphic p graphic r c)))
       (sym e ∙ (λ k. i k && j k))
 
   pub cell-cursor : {n : ℕ} → (a && b) ≡ true → n ≡ 2 ^ p .width - 1 → n ≡ pictureCell p rom (pictureWith graphic codes glyphs s) normal r c
   cell-cursor e h = h ∙ cell-as true e
 
-  pub cell-shown : {t g n : ℕ} → (a && b) ≡ false → t ≡ textDots p rom codes glyphs r c → g ≡ graphicDots p graphic r c
+  pub cell-shown : {t g n : ℕ} → (a && b) ≡ false → t ≡ planeText p rom codes glyphs r c → g ≡ planeGraphic p graphic r c
       → n ≡ combined (s .combination) t g → n ≡ pictureCell p rom (pictureWith graphic codes glyphs s) normal r c
   cell-shown e h k l = l ∙ (λ q. combined (s .combination) (h q) (k q)) ∙ cell-as false e
 

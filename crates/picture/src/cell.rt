@@ -4,7 +4,7 @@ ghost use mathlib.Core.Logic.{_⊎_};
 ghost use Prim.Native.Nat.{_-_, _%_, _^_, _<_};
 ghost use lib.ListN.{length};
 ghost use Rattle.picture.specs.Picture.{pictureCell};
-ghost use Rattle.picture.specs.Layers.{glyphIn, textDots, graphicDots};
+ghost use Rattle.picture.specs.Layers.{glyphIn, planeText, planeGraphic};
 ghost use Rattle.picture.specs.Ready.{pictureWith, cellsOf, graphicBytes, InPlane, OnPanel, Paintable};
 use super::style::Style;
 use state::combination::combine;
@@ -43,7 +43,7 @@ fn glyph_row(rom: &[u8], glyphs: &[u8], code: u8, v: usize) -> u8
 fn text_dots(panel: Panel, rom: &[u8], codes: &[u8], glyphs: &[u8], row: usize, column: usize) -> u8
     requires { ⌜ InPlane panel (OnPanel panel row column) (cellsOf panel) (now codes) ⌝ }
     requires { ⌜ (length (now rom) ≡ 1024) × (length (now glyphs) ≡ 1024) ⌝ }
-    ensures { λ r. ⌜ r ≡ textDots panel (now (rom .entry)) (now (codes .entry)) (now (glyphs .entry)) row column ⌝ }
+    ensures { λ r. ⌜ r ≡ planeText panel (now (rom .entry)) (now (codes .entry)) (now (glyphs .entry)) row column ⌝ }
 {
     let at = row / 8 * panel.columns + column;
     low(panel.width, glyph_row(rom, glyphs, codes[at], row % 8))
@@ -51,7 +51,7 @@ fn text_dots(panel: Panel, rom: &[u8], codes: &[u8], glyphs: &[u8], row: usize, 
 
 fn graphic_dots(panel: Panel, graphic: &[u8], row: usize, column: usize) -> u8
     requires { ⌜ InPlane panel (OnPanel panel row column) (graphicBytes panel) (now graphic) ⌝ }
-    ensures { λ r. ⌜ r ≡ graphicDots panel (now (graphic .entry)) row column ⌝ }
+    ensures { λ r. ⌜ r ≡ planeGraphic panel (now (graphic .entry)) row column ⌝ }
 {
     let at = row * panel.columns + column;
     low(panel.width, graphic[at])

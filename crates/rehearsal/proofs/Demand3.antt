@@ -141,8 +141,8 @@ module _ (p : Panel) (v : validPanel p ≡ true) (book : List ℕ) (bytes : (i :
             ∙ over-stream
 
         -- the run over the written room
-        pub shows : Shows p os r mem rom buffer (runOf p r mem rom (take (2 * countOf p os) (sets room 0 (logOf (streamOf p os)))) limit buffer)
-        shows = subst (λ (e : RanAll). Shows p os r mem rom buffer e) (sym over-room) came-shows
+        pub bits : Shows p os r mem rom buffer (runOf p r mem rom (take (2 * countOf p os) (sets room 0 (logOf (streamOf p os)))) limit buffer)
+        bits = subst (λ (e : RanAll). Shows p os r mem rom buffer e) (sym over-room) came-shows
 
   -- the registers then, whatever buffer is lent
   pub registers-then : (buffer room : List ℕ) → 2 * countOf p os ≤ length room
@@ -157,5 +157,5 @@ demand-3 p book number os room r mem rom answers limit bytes v whole fits valid 
     let e : writeOf p book number room ≡ wrote 0 0 (countOf p os) (sets room 0 (logOf (streamOf p os))) = write-fits p book number room v whole fits in (
       ap (λ (o : Wrote). o .written) e,
       subst (λ (o : Wrote). Shows p os r mem rom answers (runOf p r mem rom (take (2 * countOf p os) (o .room)) limit answers)) (sym e)
-          (shows p v book bytes number whole r mem rom valid size characters answers limit few room fits),
+          (bits p v book bytes number whole r mem rom valid size characters answers limit few room fits),
     )

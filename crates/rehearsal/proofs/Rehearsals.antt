@@ -30,7 +30,7 @@ use Rattle.picture.specs.Picture.{pictureOf, pictureFrame}
 use Rattle.rehearsal.specs.declared.rehearse.Rehearsed.{Rehearsed}
 use Rattle.rehearsal.specs.Demand3.{Shows}
 use Rattle.rehearsal.specs.Rehearsed.{Rehearsal, rehearsedAll, refusedWith, refusal, shownOf, rehearseScreen, rehearseOf, Outright}
-use Rattle.rehearsal.proofs.Demand3.{holding-length, shows, registers-then}
+use Rattle.rehearsal.proofs.Demand3.{holding-length, bits, registers-then}
 
 module _ (p : Panel) (r : Registers) (mem rom book : List ℕ) (number : ℕ) (room frame : List ℕ) where
   abbrev Meets : Rehearsed → List ℕ → List ℕ → List ℕ → Type 0
@@ -134,7 +134,7 @@ module _ (p : Panel) (r : Registers) (mem rom book : List ℕ) (number : ℕ) (r
           shown : Shows p os r mem rom buffer (ranAll ran m c)
           shown =
               subst (λ (e : RanAll). Shows p os r mem rom buffer e) (sym came)
-              (shows p (streamed .valid) book bytes number (streamed .whole) r mem rom valid size characters buffer (countOf p os) (omega arith) room fits)
+              (bits p (streamed .valid) book bytes number (streamed .whole) r mem rom valid size characters buffer (countOf p os) (omega arith) room fits)
 
           module _ {y : Reply} {f : List ℕ} (d : painted y f ≡ paintOf p (ran .registers) m rom frame) where
             long : length m ≡ 65536

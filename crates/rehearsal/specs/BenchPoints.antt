@@ -106,7 +106,7 @@ module _ (p : Panel) (rom mem : List ℕ) where
           offset = r .display .offset;
           combination = And;
           external = true;
-          shows = r .display .shows;
+          bits = r .display .bits;
           cursor = r .display .cursor;
           phase = r .display .phase;
         }

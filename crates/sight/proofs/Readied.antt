@@ -11,7 +11,7 @@ use Rattle.state.specs.State.{validPanel, validDisplay, validBus, validRegister
 use Rattle.state.proofs.Valid.{panelled}
 use Rattle.display.specs.Displayed.{displayedByte}
 use Rattle.display.specs.Frame.{lentLengths, displayedOf}
-use Rattle.display.specs.declared.displayed.Shown.{Shown}
+use Rattle.display.specs.declared.displayed.Seen.{Seen}
 use Rattle.display.proofs.Doors.{displayed-is}
 use Rattle.effects.specs.Machine.{Machine, machine}
 use Rattle.sight.specs.Types.{Panel, Display, Registers, Bus}
@@ -45,10 +45,10 @@ ready-past p r mem rom {a} {b} i j e l =
     ready p (r .display) mem rom (sym i ∙ both-left a b e) (both-left _ (validBus (r .bus)) (sym j ∙ both-right a b e)) l
 
 -- the byte shown, of an answer that meets the display's promise
-pub shown-byte : {p : Panel} {d : Display} {mem rom : List ℕ} → Ready p d mem rom → (r c : ℕ) {x : Shown} → x ≡ displayedOf p d mem rom r c
+pub shown-byte : {p : Panel} {d : Display} {mem rom : List ℕ} → Ready p d mem rom → (r c : ℕ) {x : Seen} → x ≡ displayedOf p d mem rom r c
     → x .byte ≡ displayedByte p d mem rom r c
 shown-byte {p} {d} {mem} {rom} k r c e =
-    ap (λ (x : Shown). x .byte) (e ∙ displayed-is p d mem rom r c (k .panel) (k .display) (k .lent))
+    ap (λ (x : Seen). x .byte) (e ∙ displayed-is p d mem rom r c (k .panel) (k .display) (k .lent))
 
 -- whoever is ready is let through
 module _ (p : Panel) (r : Registers) (mem rom : List ℕ) (k : Ready p (r .display) mem rom) where

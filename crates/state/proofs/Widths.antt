@@ -3,7 +3,7 @@ use mathlib.Core.Bool.{Bool, true, false, cond, _&&_, not}
 use Prim.Native.Nat.{ℕ, _%_, _^_, _<_}
 use lib.Pow.{pow-pos, ones-sub-lt}
 use lib.Bits.{or-lt, xor-lt, and-lt}
-use Rattle.state.specs.Types.{Combination, Or, Exor, And, Attribute, Show, Normal, Reverse, Inhibit}
+use Rattle.state.specs.Types.{Combination, Or, Exor, And, Attribute, Manner, Normal, Reverse, Inhibit}
 use Rattle.state.specs.Attribute.{lookOf, shownAs, attributed}
 use Rattle.state.specs.Combination.{combined}
 
@@ -12,7 +12,7 @@ module _ (w : ℕ) where
   cond-lt true x y h k = h
   cond-lt false x y h k = k
 
-  shown-lt : (s : Show) (n : ℕ) → n < 2 ^ w → shownAs s w n < 2 ^ w
+  shown-lt : (s : Manner) (n : ℕ) → n < 2 ^ w → shownAs s w n < 2 ^ w
   shown-lt Normal n h = h
   shown-lt Reverse n h = ones-sub-lt w n
   shown-lt Inhibit n h = pow-pos w

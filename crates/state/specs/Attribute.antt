@@ -2,7 +2,7 @@
 use Prim.Native.Nat.{ℕ, _-_, _%_, _^_}
 use mathlib.Core.Bool.{Bool, cond, not, _&&_, _||_}
 use lib.Dec.{eqb}
-use Rattle.state.specs.Types.{Show, Normal, Reverse, Inhibit, Look}
+use Rattle.state.specs.Types.{Manner, Normal, Reverse, Inhibit, Look}
 
 -- the table: 0 normal, 5 reverse, 3 inhibit; 8, 13, 11 the same with blink; the other ten normal, steady (H)
 unfoldable pub lookOf : ℕ → Look
@@ -13,7 +13,7 @@ lookOf n =
     }
 
 -- normal; reverse, w bits complemented; inhibit, 0
-abbrev pub shownAs : Show → ℕ → ℕ → ℕ
+abbrev pub shownAs : Manner → ℕ → ℕ → ℕ
 shownAs Normal w n = n
 shownAs Reverse w n = 2 ^ w - 1 - n
 shownAs Inhibit w n = 0

@@ -41,7 +41,7 @@ resetRegisters =
         offset = 0;
         combination = Or;
         external = false;
-        shows = record { graphic = false; text = false; cursor = false; blink = false };
+        bits = record { graphic = false; text = false; cursor = false; blink = false };
         cursor = record { x = 0; y = 0; height = 1 };
         phase = true;
       };

@@ -2,7 +2,7 @@
 pub use Rattle.state.specs.declared.panel.Panel.{Panel}
 pub use Rattle.state.specs.declared.registers.Plane.{Plane}
 pub use Rattle.state.specs.declared.registers.Cursor.{Cursor}
-pub use Rattle.state.specs.declared.registers.Shows.{Shows}
+pub use Rattle.state.specs.declared.registers.DisplayBits.{DisplayBits}
 pub use Rattle.state.specs.declared.registers.Combination.{Combination}
 pub use Rattle.state.specs.declared.registers.Combination.the-variants.{Or, Exor, And, Attribute}
 pub use Rattle.state.specs.declared.registers.Display.{Display}
@@ -11,7 +11,7 @@ pub use Rattle.state.specs.declared.registers.Auto.the-variants.{Off, Wr
 pub use Rattle.state.specs.declared.registers.Pending.{Pending}
 pub use Rattle.state.specs.declared.registers.Bus.{Bus}
 pub use Rattle.state.specs.declared.registers.Registers.{Registers}
-pub use Rattle.state.specs.declared.attribute.Show.{Show}
-pub use Rattle.state.specs.declared.attribute.Show.the-variants.{Normal, Reverse, Inhibit}
+pub use Rattle.state.specs.declared.attribute.Manner.{Manner}
+pub use Rattle.state.specs.declared.attribute.Manner.the-variants.{Normal, Reverse, Inhibit}
 pub use Rattle.state.specs.declared.attribute.Look.{Look}
 pub use Rattle.state.specs.declared.reply.Reply.{Reply}

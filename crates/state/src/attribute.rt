@@ -4,7 +4,7 @@ ghost use Prim.Native.Nat.{_%_};
 ghost use Rattle.state.specs.Attribute.{lookOf};
 
 // How a glyph row is shown.
-pub enum Show {
+pub enum Manner {
     Normal,
     Reverse,
     Inhibit,
@@ -12,37 +12,37 @@ pub enum Show {
 
 // What the table has for an attribute code.
 pub struct Look {
-    pub shown: Show,
+    pub shown: Manner,
     pub blinks: bool,
 }
 
 const NORMAL: Look = Look {
-    shown: Show::Normal,
+    shown: Manner::Normal,
     blinks: false,
 };
 
 const REVERSE: Look = Look {
-    shown: Show::Reverse,
+    shown: Manner::Reverse,
     blinks: false,
 };
 
 const INHIBIT: Look = Look {
-    shown: Show::Inhibit,
+    shown: Manner::Inhibit,
     blinks: false,
 };
 
 const NORMAL_BLINKING: Look = Look {
-    shown: Show::Normal,
+    shown: Manner::Normal,
     blinks: true,
 };
 
 const REVERSE_BLINKING: Look = Look {
-    shown: Show::Reverse,
+    shown: Manner::Reverse,
     blinks: true,
 };
 
 const INHIBIT_BLINKING: Look = Look {
-    shown: Show::Inhibit,
+    shown: Manner::Inhibit,
     blinks: true,
 };
 

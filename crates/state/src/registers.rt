@@ -16,7 +16,7 @@ pub struct Cursor {
 }
 
 // The four display bits.
-pub struct Shows {
+pub struct DisplayBits {
     pub graphic: bool,
     pub text: bool,
     pub cursor: bool,
@@ -37,7 +37,7 @@ pub struct Display {
     pub offset: u8,
     pub combination: Combination,
     pub external: bool,
-    pub shows: Shows,
+    pub bits: DisplayBits,
     pub cursor: Cursor,
     pub phase: bool,
 }
@@ -113,7 +113,7 @@ impl Registers {
                 offset: 0,
                 combination: Combination::Or,
                 external: false,
-                shows: Shows {
+                bits: DisplayBits {
                     graphic: false,
                     text: false,
                     cursor: false,

@@ -10,7 +10,7 @@ use Rattle.book.specs.declared.operation.Placed.{Placed}
 use Rattle.book.specs.declared.operation.Found.{Found}
 use Rattle.book.specs.declared.operation.Found.the-variants.{Operation as Found-Operation, End, Faulty}
 use Rattle.book.specs.Operation.{Operation, bodyCount, operationOf, foundAt}
-use Rattle.book.specs.Pairs.{pairsOf}
+use Rattle.book.specs.Pairs.{placedPairs}
 use Rattle.book.specs.Range.{InRange, FoundOperation}
 use Rattle.book.specs.Screen.{screen, operationsFrom}
 use Rattle.book.proofs.Finding.{found-operation, pairs-placed}
@@ -22,8 +22,8 @@ use Rattle.writer.proofs.Puts.{put-length, Putting, putting, put-on, pu
 
 -- an operation by what it was found to be
 module _ (p : Panel) (book : List ℕ) {at : ℕ} {a : List ℕ} {o x : Placed} (e : o ≡ x) where
-  pub ready-as : Ready p (InRange p book o) (pairsOf o) at a → Ready p (InRange p book x) (pairsOf x) at a
-  ready-as k = subst (λ (y : Placed). Ready p (InRange p book y) (pairsOf y) at a) e k
+  pub ready-as : Ready p (InRange p book o) (placedPairs o) at a → Ready p (InRange p book x) (placedPairs x) at a
+  ready-as k = subst (λ (y : Placed). Ready p (InRange p book y) (placedPairs y) at a) e k
 
   pub put-operation-as : {b : List ℕ} {w : ℕ} → Put a at (operationPairs p (operationOf book x)) b w → Put a at (operationPairs p (operationOf book o)) b w
   put-operation-as {b} {w} k = subst (λ (y : Placed). Put a at (operationPairs p (operationOf book y)) b w) (sym e) k
@@ -57,11 +57,11 @@ module _ (p : Panel) (book : List ℕ) (start end at : ℕ) {a : List ℕ} where
       step : Step p book end o behind (k .rest)
       step = step-on p book next end (k .left) (sym i ∙ e)
 
-      count-is : bodyCount (k .rest) ≡ pairsOf o + bodyCount (step .rest)
+      count-is : bodyCount (k .rest) ≡ placedPairs o + bodyCount (step .rest)
       unfolding bodyCount
       count-is = ap bodyCount (step .is) ∙ ap (λ (m : ℕ). m + bodyCount (step .rest)) (pairs-placed p book o (writing-found .range))
 
-      pub writing-ready : Ready p (InRange p book o) (pairsOf o) w b
+      pub writing-ready : Ready p (InRange p book o) (placedPairs o) w b
       writing-ready = record { valid = k .valid; range = writing-found .range; fits = omega (arith, k .fits, count-is) }
 
       pub writing-on : {c : List ℕ} {v : ℕ} → Put b w (operationPairs p (operationOf book o)) c v → Writing p book start end at a c behind v

@@ -6,7 +6,7 @@ ghost use Prim.Native.Nat.{_+_, _-_, _*_, _≤_};
 ghost use lib.ListN.{take, drop};
 ghost use Rattle.state.specs.State.{validPanel};
 ghost use Rattle.book.specs.Operation.{dotBit, operationOf, text, dot};
-ghost use Rattle.book.specs.Pairs.{pairsOf};
+ghost use Rattle.book.specs.Pairs.{placedPairs};
 ghost use Rattle.book.specs.Range.{InRange, TextRange, RectangleRange, DotRange, GlyphRange};
 ghost use Rattle.book.specs.Screen.{operationsFrom};
 ghost use Rattle.writer.specs.Stream.{datum, code, block, glyphHome, rowBlocks, combinationCode, operationPairs, bodyPairs};
@@ -129,7 +129,7 @@ fn combination_code(combination: Combination) -> u8
 
 // The pairs of an operation that was found in the book.
 fn put_operation(room: &mut [u8], at: usize, panel: Panel, book: &[u8], placed: Placed) -> usize
-    requires { ⌜ Ready panel (InRange panel (now book) placed) (pairsOf placed) at (now room) ⌝ }
+    requires { ⌜ Ready panel (InRange panel (now book) placed) (placedPairs placed) at (now room) ⌝ }
     ensures { λ r. ⌜ Put (now (room .entry)) at (operationPairs panel (operationOf (now (book .entry)) placed)) (now (room .exit)) r ⌝ }
 {
     match placed {

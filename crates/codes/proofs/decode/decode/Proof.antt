@@ -15,20 +15,20 @@ control-requires c κs = search needs
 mode-requires : tie.Need-mode-requires
 mode-requires c κs = search needs
 
-show-requires : tie.Need-show-requires
-show-requires c κs = search needs
+display-mode-requires : tie.Need-display-mode-requires
+display-mode-requires c κs = search needs
 
 height-requires : tie.Need-height-requires
 height-requires c κs = search needs
 
-run-requires : tie.Need-run-requires
-run-requires c κs = search needs
+auto-code-requires : tie.Need-auto-code-requires
+auto-code-requires c κs = search needs
 
 transfer-requires : tie.Need-transfer-requires
 transfer-requires c κs = search needs
 
-screen-requires : tie.Need-screen-requires
-screen-requires c κs = search needs
+sight-code-requires : tie.Need-sight-code-requires
+sight-code-requires c κs = search needs
 
 bit-code-requires : tie.Need-bit-code-requires
 bit-code-requires c κs = search needs
@@ -43,19 +43,19 @@ returns-3 : tie.Need-returns-3
 returns-3 c = numbered (c .before .before .args .code) (omega arith) (rw (c .before .match .keys3) (c .mode .ensures))
 
 returns-4 : tie.Need-returns-4
-returns-4 c = numbered (c .before .before .args .code) (omega arith) (rw (c .before .match .keys4) (c .show .ensures))
+returns-4 c = numbered (c .before .before .args .code) (omega arith) (rw (c .before .match .keys4) (c .display-mode .ensures))
 
 returns-5 : tie.Need-returns-5
 returns-5 c = numbered (c .before .before .args .code) (omega arith) (rw (c .before .match .keys5) (c .height .ensures))
 
 returns-6 : tie.Need-returns-6
-returns-6 c = numbered (c .before .before .args .code) (omega arith) (rw (c .before .match .keys6) (c .run .ensures))
+returns-6 c = numbered (c .before .before .args .code) (omega arith) (rw (c .before .match .keys6) (c .auto-code .ensures))
 
 returns-7 : tie.Need-returns-7
 returns-7 c = numbered (c .before .before .args .code) (omega arith) (rw (c .before .match .keys7) (c .transfer .ensures))
 
 returns-8 : tie.Need-returns-8
-returns-8 c = numbered (c .before .before .args .code) (omega arith) (rw (c .before .match .keys8) (c .screen .ensures))
+returns-8 c = numbered (c .before .before .args .code) (omega arith) (rw (c .before .match .keys8) (c .sight-code .ensures))
 
 returns-9 : tie.Need-returns-9
 returns-9 c = numbered (c .before .before .args .code) (omega arith) (rw (c .before .match .keys9) (c .bit-code .ensures))
@@ -70,11 +70,11 @@ decode-spec =
     register-requires
     control-requires
     mode-requires
-    show-requires
+    display-mode-requires
     height-requires
-    run-requires
+    auto-code-requires
     transfer-requires
-    screen-requires
+    sight-code-requires
     bit-code-requires
     returns
     returns-2

@@ -73,8 +73,8 @@ loop-less-2 c = omega (arith, c .before .before .before .before .before .before 
 loop-again-2 : tie.Need-loop-again-2 Inv-loop μ-loop
 loop-again-2 c = going-pushes (c .before .before .before .before .before .before .before .before .before .loop .inv) (c .before .before .before .before .before .before .before .before .loop-test .taken) (c .before .before .before .before .before .before .before .before .before .before .before .before .before .before .before .before .pre .1) (c .before .before .before .is-off .ensures) (c .before .before .if2 .taken) (c .push .ensures)
 
-state-requires : tie.Need-state-requires Inv-loop μ-loop
-state-requires c κs = search needs
+bus-status-requires : tie.Need-bus-status-requires Inv-loop μ-loop
+bus-status-requires c κs = search needs
 
 slice-write-answers : tie.Need-slice-write-answers Inv-loop μ-loop
 slice-write-answers c = let h = room-left (c .before .before .before .before .before .before .before .before .before .loop .inv) 3 (c .before .if3 .taken) in omega (arith, h)
@@ -89,7 +89,7 @@ loop-less-3 : tie.Need-loop-less-3 Inv-loop μ-loop
 loop-less-3 c = omega (arith, c .before .before .before .before .before .before .before .before .loop-test .taken)
 
 loop-again-3 : tie.Need-loop-again-3 Inv-loop μ-loop
-loop-again-3 c = going-states (c .before .before .before .before .before .before .before .before .before .loop .inv) (c .before .before .before .before .before .before .before .before .loop-test .taken) (c .before .before .before .before .before .before .before .before .before .before .before .before .before .before .before .before .pre .1) (c .before .if3 .taken) (c .state .ensures)
+loop-again-3 c = going-states (c .before .before .before .before .before .before .before .before .before .loop .inv) (c .before .before .before .before .before .before .before .before .loop-test .taken) (c .before .before .before .before .before .before .before .before .before .before .before .before .before .before .before .before .pre .1) (c .before .if3 .taken) (c .bus-status .ensures)
 
 tell-requires : tie.Need-tell-requires Inv-loop μ-loop
 tell-requires c κs = c .before .before .before .before .before .before .before .before .before .loop .inv .sound .memory
@@ -227,7 +227,7 @@ pairs-spec =
     add-i
     loop-less-2
     loop-again-2
-    state-requires
+    bus-status-requires
     slice-write-answers
     add-given
     add-i-2

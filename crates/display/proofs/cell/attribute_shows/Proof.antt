@@ -10,15 +10,15 @@ use Rattle.display.proofs.cell.attribute_shows.Tie as tie
 look-at-requires : tie.Need-look-at-requires
 look-at-requires c κs = search needs
 
-shows-requires : tie.Need-shows-requires
-shows-requires c κs = search needs
+look-shows-requires : tie.Need-look-shows-requires
+look-shows-requires c κs = search needs
 
 returns : tie.Need-returns
 unfolding attributed
 returns c =
     let a = c .before .before .args in
-    c .shows .ensures
+    c .look-shows .ensures
     ∙ ap (λ (l : Look). cond (l .blinks && not (a .normal)) 0 (shownAs (l .shown) (a .width) (a .dots))) (c .before .look-at .ensures)
 
 pub attribute-shows-spec : {M : Type 1} → statement M
-attribute-shows-spec = tie.close (tie.spec look-at-requires shows-requires returns)
+attribute-shows-spec = tie.close (tie.spec look-at-requires look-shows-requires returns)

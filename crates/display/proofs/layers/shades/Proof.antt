@@ -30,14 +30,14 @@ mul-look c = omega arith
 array-copy-out-look : tie.Need-array-copy-out-look Inv-loop μ-loop
 array-copy-out-look c = c .loop-test .taken
 
-shows-requires : tie.Need-shows-requires Inv-loop μ-loop
-shows-requires c κs = let s = c .before .before .before .before .before .before in (s .pre .0, rw (c .before .before .before .full .ensures) (ones-lt (s .args .width)))
+look-shows-requires : tie.Need-look-shows-requires Inv-loop μ-loop
+look-shows-requires c κs = let s = c .before .before .before .before .before .before in (s .pre .0, rw (c .before .before .before .full .ensures) (ones-lt (s .args .width)))
 
 slice-write-lit : tie.Need-slice-write-lit Inv-loop μ-loop
 slice-write-lit c = let s = c .before .before .before .before .before .before .before in omega (arith, s .pre .1, as-long _ _ (c .before .before .before .loop .inv .0))
 
-shows-requires-2 : tie.Need-shows-requires-2 Inv-loop μ-loop
-shows-requires-2 c κs = let s = c .before .before .before .before .before .before .before in (s .pre .0, pow-pos (s .args .width))
+look-shows-requires-2 : tie.Need-look-shows-requires-2 Inv-loop μ-loop
+look-shows-requires-2 c κs = let s = c .before .before .before .before .before .before .before in (s .pre .0, pow-pos (s .args .width))
 
 slice-write-dark : tie.Need-slice-write-dark Inv-loop μ-loop
 slice-write-dark c = let s = c .before .before .before .before .before .before .before .before in omega (arith, s .pre .1, as-long _ _ (c .before .before .before .before .loop .inv .1))
@@ -55,7 +55,7 @@ loop-again c =
     let w = c .before .before .before .before .loop .inv in
     let l = c .before .before .before .loop-test .taken in
     let e = build-at 16 lookOf (c .before .before .before .before .loop .code) _ l in
-    (one-more _ _ (w .0) (omega (arith, s .pre .1)) (by-table _ _ _ _ l e (c .before .shows .ensures) (c .before .before .before .before .before .full .ensures)), one-more _ _ (w .1) (omega (arith, s .pre .1)) (by-table _ _ _ _ l e (c .shows2 .ensures) refl))
+    (one-more _ _ (w .0) (omega (arith, s .pre .1)) (by-table _ _ _ _ l e (c .before .look-shows .ensures) (c .before .before .before .before .before .full .ensures)), one-more _ _ (w .1) (omega (arith, s .pre .1)) (by-table _ _ _ _ l e (c .look-shows2 .ensures) refl))
 
 same-length : tie.Need-same-length Inv-loop μ-loop
 same-length c = as-long _ _ (c .before .loop .inv .0)
@@ -76,9 +76,9 @@ shades-spec =
     loop-holds
     mul-look
     array-copy-out-look
-    shows-requires
+    look-shows-requires
     slice-write-lit
-    shows-requires-2
+    look-shows-requires-2
     slice-write-dark
     add-code
     loop-less

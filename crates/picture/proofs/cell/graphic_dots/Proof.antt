@@ -1,6 +1,6 @@
 -- `graphic_dots` meets its contract: the graphic byte, masked.
 use Rattle.state.proofs.Valid.{panelled}
-use Rattle.picture.specs.Layers.{graphicDots}
+use Rattle.picture.specs.Layers.{planeGraphic}
 use Rattle.picture.proofs.Places.{graphic-few, graphic-place}
 use native.Mathlib.Omega.{arith}
 use Rattle.picture.proofs.cell.graphic_dots.Statement.{statement}
@@ -19,7 +19,7 @@ low-requires : tie.Need-low-requires
 low-requires c κs = let s = c .before .before .before in panelled (s .args .panel) (s .pre .valid) .width
 
 returns : tie.Need-returns
-unfolding graphicDots
+unfolding planeGraphic
 returns c = c .low .ensures
 
 pub graphic-dots-spec : {M : Type 1} → statement M

@@ -1,7 +1,7 @@
--- `shows` meets its contract, by the table's row.
+-- `look_shows` meets its contract, by the table's row.
 use borrow.Author.Needs.{needs}
-use Rattle.display.proofs.cell.shows.Statement.{statement}
-use Rattle.display.proofs.cell.shows.Tie as tie
+use Rattle.display.proofs.cell.look_shows.Statement.{statement}
+use Rattle.display.proofs.cell.look_shows.Tie as tie
 
 returns : tie.Need-returns
 returns c = rw (c .if1 .taken)
@@ -30,8 +30,8 @@ returns-3 c = rw (c .before .before .before .if1 .left, c .before .enum-told2 .g
 returns-4 : tie.Need-returns-4
 returns-4 c = rw (c .before .before .if1 .left, c .enum-told3 .given .1)
 
-pub shows-spec : {M : Type 1} → statement M
-shows-spec =
+pub look-shows-spec : {M : Type 1} → statement M
+look-shows-spec =
     tie.close
     (tie.spec
     returns

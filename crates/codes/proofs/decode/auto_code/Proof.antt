@@ -1,7 +1,7 @@
--- `run` meets its contract, key by key.
+-- `auto_code` meets its contract, key by key.
 use borrow.Author.Tests.{ne-eqb}
-use Rattle.codes.proofs.decode.run.Statement.{statement}
-use Rattle.codes.proofs.decode.run.Tie as tie
+use Rattle.codes.proofs.decode.auto_code.Statement.{statement}
+use Rattle.codes.proofs.decode.auto_code.Tie as tie
 
 returns : tie.Need-returns
 returns c = rw (c .match .keys1)
@@ -15,5 +15,5 @@ returns-3 c = rw (c .match .keys3)
 returns-4 : tie.Need-returns-4
 returns-4 c = simp (ne-eqb _ _ (c .match .rest .1), ne-eqb _ _ (c .match .rest .0 .1), ne-eqb _ _ (c .match .rest .0 .0 .1))
 
-pub run-spec : {M : Type 1} → statement M
-run-spec = tie.close (tie.spec returns returns-2 returns-3 returns-4)
+pub auto-code-spec : {M : Type 1} → statement M
+auto-code-spec = tie.close (tie.spec returns returns-2 returns-3 returns-4)
