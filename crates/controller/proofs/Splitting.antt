@@ -167,9 +167,15 @@ module _ (p : Panel) (r : Registers) (mem rom log answers : List ℕ) (n m : ℕ
       ∙ went-on n front (runFrom (stepOf p rom) 0 rest left) (run-kept p rom rest 0 left (kept .sound) (omega arith) .ends)
       ∙ (λ i. continued n front (g i) (ranOf (runFrom (stepOf p rom) 0 (take m (pairs-drop n log i)) left)))
 
--- document 01's split rule
-pub split : Split
-split p r mem rom log answers n m z t =
+-- the second run behind the first
+abbrev gone-on : Panel → List ℕ → List ℕ → ℕ → ℕ → RanAll → RanAll
+gone-on p rom log n m x = continued n (take (x .ran .answers) (x .answers)) (x .ran .answers) (secondRun p rom log n m x)
+
+split-run : (p : Panel) (r : Registers) (mem rom log answers : List ℕ) (n m : ℕ)
+    → runOf p r mem rom log n answers .ran .number ≡ 0
+    → runOf p r mem rom log n answers .ran .taken ≡ n
+    → runOf p r mem rom log (n + m) answers ≡ gone-on p rom log n m (runOf p r mem rom log n answers)
+split-run p r mem rom log answers n m z t =
     let d = door p r mem rom log n answers z in
     let f = inside p r mem rom log n answers (d .0) (d .1) (d .2) in
     inside p r mem rom log (n + m) answers (d .0) (d .1) (d .2)
@@ -178,5 +184,11 @@ split p r mem rom log answers n m z t =
     (continued n (take (firstRun p r mem rom log answers n m (d .0) (d .1) (d .2) .standing .given) (firstRun p r mem rom log answers n m (d .0) (d .1) (d .2) .standing .answers)) (firstRun p r mem rom log answers n m (d .0) (d .1) (d .2) .standing .given))
     (sym (second p r mem rom log answers n m (d .0) (d .1) (d .2)))
     ∙ ap
-    (λ (x : RanAll). continued n (take (x .ran .answers) (x .answers)) (x .ran .answers) (secondRun p rom log n m x))
+    (gone-on p rom log n m)
     (sym f)
+
+-- document 01's split rule
+pub split : Split
+split p r mem rom log answers n m first e z t =
+    split-run p r mem rom log answers n m (ap (λ (x : RanAll). x .ran .number) (sym e) ∙ z) (ap (λ (x : RanAll). x .ran .taken) (sym e) ∙ t)
+    ∙ ap (gone-on p rom log n m) (sym e)

@@ -29,9 +29,9 @@ secondRun p rom log n m first =
 
 abbrev pub Split : Type 0
 Split =
-    (p : Panel) (r : Registers) (mem rom log answers : List ℕ) (n m : ℕ)
-    → runOf p r mem rom log n answers .ran .number ≡ 0
-    → runOf p r mem rom log n answers .ran .taken ≡ n
+    (p : Panel) (r : Registers) (mem rom log answers : List ℕ) (n m : ℕ) (first : RanAll)
+    → first ≡ runOf p r mem rom log n answers
+    → first .ran .number ≡ 0
+    → first .ran .taken ≡ n
     → runOf p r mem rom log (n + m) answers
-    ≡ continued n (take (runOf p r mem rom log n answers .ran .answers) (runOf p r mem rom log n answers .answers)) (runOf p r mem rom log n answers .ran .answers)
-    (secondRun p rom log n m (runOf p r mem rom log n answers))
+    ≡ continued n (take (first .ran .answers) (first .answers)) (first .ran .answers) (secondRun p rom log n m first)

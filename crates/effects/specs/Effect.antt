@@ -14,40 +14,148 @@ abbrev pub withBus : Registers → Bus → Registers
 withBus r b = record { display = r .display; bus = b }
 
 abbrev pub withText : Display → Plane → Display
-withText d q = record { text = q; graphic = d .graphic; offset = d .offset; combination = d .combination; external = d .external; bits = d .bits; cursor = d .cursor; phase = d .phase }
+withText d q =
+    record {
+      text = q;
+      graphic = d .graphic;
+      offset = d .offset;
+      combination = d .combination;
+      external = d .external;
+      bits = d .bits;
+      cursor = d .cursor;
+      phase = d .phase;
+    }
 
 abbrev pub withGraphic : Display → Plane → Display
-withGraphic d q = record { text = d .text; graphic = q; offset = d .offset; combination = d .combination; external = d .external; bits = d .bits; cursor = d .cursor; phase = d .phase }
+withGraphic d q =
+    record {
+      text = d .text;
+      graphic = q;
+      offset = d .offset;
+      combination = d .combination;
+      external = d .external;
+      bits = d .bits;
+      cursor = d .cursor;
+      phase = d .phase;
+    }
 
 abbrev pub withOffset : Display → ℕ → Display
-withOffset d n = record { text = d .text; graphic = d .graphic; offset = n; combination = d .combination; external = d .external; bits = d .bits; cursor = d .cursor; phase = d .phase }
+withOffset d n =
+    record {
+      text = d .text;
+      graphic = d .graphic;
+      offset = n;
+      combination = d .combination;
+      external = d .external;
+      bits = d .bits;
+      cursor = d .cursor;
+      phase = d .phase;
+    }
 
 abbrev pub withMode : Display → Bool → Combination → Display
-withMode d e k = record { text = d .text; graphic = d .graphic; offset = d .offset; combination = k; external = e; bits = d .bits; cursor = d .cursor; phase = d .phase }
+withMode d e k =
+    record {
+      text = d .text;
+      graphic = d .graphic;
+      offset = d .offset;
+      combination = k;
+      external = e;
+      bits = d .bits;
+      cursor = d .cursor;
+      phase = d .phase;
+    }
 
 abbrev pub withDisplayBits : Display → DisplayBits → Display
-withDisplayBits d s = record { text = d .text; graphic = d .graphic; offset = d .offset; combination = d .combination; external = d .external; bits = s; cursor = d .cursor; phase = d .phase }
+withDisplayBits d s =
+    record {
+      text = d .text;
+      graphic = d .graphic;
+      offset = d .offset;
+      combination = d .combination;
+      external = d .external;
+      bits = s;
+      cursor = d .cursor;
+      phase = d .phase;
+    }
 
 abbrev pub withCursor : Display → Cursor → Display
-withCursor d k = record { text = d .text; graphic = d .graphic; offset = d .offset; combination = d .combination; external = d .external; bits = d .bits; cursor = k; phase = d .phase }
+withCursor d k =
+    record {
+      text = d .text;
+      graphic = d .graphic;
+      offset = d .offset;
+      combination = d .combination;
+      external = d .external;
+      bits = d .bits;
+      cursor = k;
+      phase = d .phase;
+    }
+
+abbrev pub withHeight : Display → ℕ → Display
+withHeight d n = withCursor d (record { x = d .cursor .x; y = d .cursor .y; height = n })
 
 abbrev pub withPhase : Display → Bool → Display
-withPhase d n = record { text = d .text; graphic = d .graphic; offset = d .offset; combination = d .combination; external = d .external; bits = d .bits; cursor = d .cursor; phase = n }
+withPhase d n =
+    record {
+      text = d .text;
+      graphic = d .graphic;
+      offset = d .offset;
+      combination = d .combination;
+      external = d .external;
+      bits = d .bits;
+      cursor = d .cursor;
+      phase = n;
+    }
 
 abbrev pub withPointer : Bus → ℕ → Bus
-withPointer b n = record { pointer = n; auto = b .auto; pending = b .pending; latch = b .latch; error = b .error }
+withPointer b n =
+    record {
+      pointer = n;
+      auto = b .auto;
+      pending = b .pending;
+      latch = b .latch;
+      error = b .error;
+    }
 
 abbrev pub withAuto : Bus → Auto → Bus
-withAuto b a = record { pointer = b .pointer; auto = a; pending = b .pending; latch = b .latch; error = b .error }
+withAuto b a =
+    record {
+      pointer = b .pointer;
+      auto = a;
+      pending = b .pending;
+      latch = b .latch;
+      error = b .error;
+    }
 
 abbrev pub withPending : Bus → Pending → Bus
-withPending b q = record { pointer = b .pointer; auto = b .auto; pending = q; latch = b .latch; error = b .error }
+withPending b q =
+    record {
+      pointer = b .pointer;
+      auto = b .auto;
+      pending = q;
+      latch = b .latch;
+      error = b .error;
+    }
 
 abbrev pub withLatch : Bus → ℕ → Bus
-withLatch b n = record { pointer = b .pointer; auto = b .auto; pending = b .pending; latch = n; error = b .error }
+withLatch b n =
+    record {
+      pointer = b .pointer;
+      auto = b .auto;
+      pending = b .pending;
+      latch = n;
+      error = b .error;
+    }
 
 abbrev pub withError : Bus → Bool → Bus
-withError b e = record { pointer = b .pointer; auto = b .auto; pending = b .pending; latch = b .latch; error = e }
+withError b e =
+    record {
+      pointer = b .pointer;
+      auto = b .auto;
+      pending = b .pending;
+      latch = b .latch;
+      error = e;
+    }
 
 -- the byte becomes the newest of the last two pending
 abbrev pub pushed : Pending → ℕ → Pending

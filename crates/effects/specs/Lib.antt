@@ -1,3 +1,3 @@
 pub mod Types
-pub mod Machine
 pub mod Effect
+pub mod Machine
