@@ -4,6 +4,7 @@ use mathlib.Core.Bool.{Bool, true, false, cond}
 use mathlib.Core.List.{List}
 use Prim.Native.Nat.{ℕ, _+_, _-_, _*_, _<_}
 use Rattle.ground.specs.Lists.{build, stored}
+use Rattle.ground.proofs.Tests.{settled}
 use Rattle.state.specs.Combination.{isAttribute}
 use Rattle.display.specs.Displayed.{addressOf, displayedByte}
 use Rattle.effects.specs.Machine.{Machine, machine}
@@ -70,3 +71,12 @@ module _ (p : Panel) (r : Registers) (mem rom : List ℕ) {b : Bool} (i : b ≡ 
 
   pub copied-off : b ≡ false → machine r mem ≡ copiedAll p r mem rom
   copied-off e = copied false e
+
+-- two replies that meet a promise are equal
+pub peek-settled : {x y : Bus} (p : Panel) (r : Registers) (mem rom : List ℕ) → x ≡ peekedOf p r mem rom → y ≡ peekedOf p r mem rom → x ≡ y
+peek-settled p r mem rom h k = settled h k
+
+pub copy-settled : {x y : Registers} {m n : List ℕ} (p : Panel) (r : Registers) (mem rom : List ℕ)
+    → machine x m ≡ copiedAll p r mem rom → machine y n ≡ copiedAll p r mem rom → (x ≡ y) × (m ≡ n)
+copy-settled p r mem rom h k =
+    (ap (λ (s : Machine). s .registers) (settled h k), ap (λ (s : Machine). s .memory) (settled h k))
