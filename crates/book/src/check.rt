@@ -6,11 +6,11 @@ ghost use Rattle.state.specs.State.{validPanel};
 ghost use Rattle.contents.specs.Inside.{Inside};
 ghost use Rattle.book.specs.Screen.{operationsFrom};
 ghost use Rattle.book.specs.Checked.{refusedWith, countedOf, checkedOf};
-use contents::ask::Asked;
-use contents::ask::ask;
 use super::operation::Found;
 use super::operation::pairs;
 use super::operation::read;
+use contents::ask::Asked;
+use contents::ask::ask;
 use state::panel::Panel;
 
 // A number and place; where the body begins and ends, and the pairs of its operations, 0 where it was refused.

@@ -8,10 +8,10 @@ use state::registers::Bus;
 use state::registers::Combination;
 use state::registers::Cursor;
 use state::registers::Display;
+use state::registers::DisplayBits;
 use state::registers::Pending;
 use state::registers::Plane;
 use state::registers::Registers;
-use state::registers::DisplayBits;
 
 fn flag_byte(flag: bool) -> u8
     ensures { λ r. ⌜ r ≡ flagByte flag ⌝ }

@@ -12,25 +12,25 @@ use crate::access::Acted;
 use crate::access::step;
 use crate::store::change;
 use crate::store::fetch;
+use crate::store::put;
+use codes::command::Move;
+use codes::command::is_off;
+use effects::effect::bus_status;
 use effects::effect::is_read;
 use effects::effect::is_write;
 use effects::effect::push;
-use crate::store::put;
-use effects::effect::bus_status;
 use effects::effect::with_auto;
 use effects::effect::with_mode;
-use codes::command::Move;
-use codes::command::is_off;
+use ground::bytes::lesser;
+use ground::bytes::word;
 use state::panel::Panel;
 use state::registers::Auto;
 use state::registers::Bus;
 use state::registers::Combination;
 use state::registers::Display;
+use state::registers::DisplayBits;
 use state::registers::Pending;
 use state::registers::Registers;
-use state::registers::DisplayBits;
-use ground::bytes::lesser;
-use ground::bytes::word;
 
 // A number and place, the pairs taken, the answers written, the registers after.
 pub struct Ran {

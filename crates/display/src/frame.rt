@@ -5,11 +5,11 @@ ghost use lib.ListN.{length};
 ghost use Rattle.ground.specs.Packing.{rowBytes};
 ghost use Rattle.display.specs.Frame.{frameOf, painted, paintOf};
 ghost use Rattle.display.specs.Drawable.{Drawable};
+use super::row::paint_row;
 use state::panel::Panel;
 use state::registers::Display;
 use state::registers::Registers;
 use state::reply::Reply;
-use super::row::paint_row;
 
 // R, the bytes of a row.
 fn row_bytes(columns: usize, width: usize) -> usize

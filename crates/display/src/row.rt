@@ -11,9 +11,9 @@ use super::cell::cursor_lit;
 use super::cell::full;
 use super::layers::lay_graphic;
 use super::layers::lay_text;
+use ground::cells::pack;
 use state::panel::Panel;
 use state::registers::Display;
-use ground::cells::pack;
 
 // The cursor laid over its cell.
 fn lay_cursor(panel: Panel, display: Display, mem: &[u8], rom: &[u8], row: usize, cells: &mut [u8])

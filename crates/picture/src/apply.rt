@@ -17,10 +17,10 @@ use super::style::Style;
 use book::operation::Found;
 use book::operation::Placed;
 use book::operation::read;
+use ground::bytes::with_bit;
 use state::panel::Panel;
 use state::registers::Combination;
 use state::registers::Cursor;
-use ground::bytes::with_bit;
 
 // Operation 1: a text's codes from its cell on.
 fn lay_text(

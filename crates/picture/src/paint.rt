@@ -7,8 +7,8 @@ ghost use Rattle.picture.specs.Picture.{pictureCell, pictureFrame};
 ghost use Rattle.picture.specs.Ready.{pictureWith, Paintable};
 use super::cell::cell;
 use super::style::Style;
-use state::panel::Panel;
 use ground::cells::pack;
+use state::panel::Panel;
 
 // R, the bytes of a row.
 pub(crate) fn row_bytes(columns: usize, width: usize) -> usize
