@@ -159,7 +159,8 @@ module _ (input out error : List ℕ) (h : not (lent out error) ≡ false) {p : 
     stream = logOf (streamOf p (accepted .os))
 
     stream-long : length stream ≡ 2 * r .pairs
-    stream-long = log-length (streamOf p (accepted .os)) ∙ ap (λ (n : ℕ). 2 * n) (sym (accepted .pairs))
+    stream-long =
+        log-length (streamOf p (accepted .os)) ∙ ap (λ (n : ℕ). 2 * n) (stream-length p book number (accepted .whole) ∙ sym (accepted .pairs))
 
     pub pairs-few : r .pairs ≤ 1048576
     pairs-few = omega (arith, accepted .fits, rooms out error h .stream)
@@ -177,7 +178,7 @@ module _ (input out error : List ℕ) (h : not (lent out error) ≡ false) {p : 
         ∙ ap (λ (t : Bool). written p (cond t (screenOf p book number) (refused 1 0))) (sym (accepted .valid))
       where
         count : countOf p (accepted .os) ≡ r .pairs
-        count = sym (stream-length p book number (accepted .whole)) ∙ sym (accepted .pairs)
+        count = sym (accepted .pairs)
 
     pub given-written : {a b c : ℕ} → a ≡ getD input 0 0 → b ≡ getD input 1 0 → c ≡ getD input 2 0
         → givenIn (record { output = 3 + 2 * r .pairs; error = 0 }) (set (set (set (back out after) 0 a) 1 b) 2 c) error ≡ writeGivenOf input out error
