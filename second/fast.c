@@ -38,10 +38,9 @@ static void make_attributes(const struct second_registers *r, struct attributes 
 {
     const word all = ~0ULL, blinking = r->phase == SECOND_PHASE_NORMAL ? all : 0;
     for (unsigned i = 0; i < 16; i++)
-        a->keep[i] = all, a->flip[i] = 0;
-    a->flip[5] = all;
+        a->keep[i] = i < 8 ? all : blinking, a->flip[i] = 0;
     a->keep[3] = a->keep[11] = 0;
-    a->keep[8] = a->keep[13] = a->flip[13] = blinking;
+    a->flip[5] = all, a->flip[13] = blinking;
 }
 
 /* What a text line is painted from. */

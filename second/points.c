@@ -317,6 +317,44 @@ static void frame_packing(void)
     memset(memory, 0, SECOND_MEMORY_LENGTH);
 }
 
+/* How each of the sixteen codes shows in phase normal, and whether it goes dark in phase off. */
+static void attribute_codes(void)
+{
+    enum { NORMAL, REVERSE, INHIBIT };
+    static const struct { int shows, blinks; } table[16] = {
+        {NORMAL, 0}, {NORMAL, 0}, {NORMAL, 0}, {INHIBIT, 0}, {NORMAL, 0}, {REVERSE, 0}, {NORMAL, 0}, {NORMAL, 0},
+        {NORMAL, 1}, {NORMAL, 1}, {NORMAL, 1}, {INHIBIT, 1}, {NORMAL, 1}, {REVERSE, 1}, {NORMAL, 1}, {NORMAL, 1}
+    };
+    struct second_panel panel = {1, 1, 8};
+    struct second_registers registers;
+    unsigned attribute, row, wrong = 0;
+    second_reset(&registers);
+    registers.combination = SECOND_ATTRIBUTE;
+    registers.external = 1; /* the glyph of code 0 stands at 0800H */
+    registers.offset = 1;
+    registers.text_home = 0x100;
+    registers.graphic = registers.text = 1;
+    for (attribute = 0; attribute < 256; attribute++) {
+        for (row = 0; row < 256; row++) {
+            memory[0] = (unsigned char)attribute;
+            memory[0x800] = (unsigned char)row;
+            for (panel.width = 6; panel.width <= 8; panel.width += 2) {
+                unsigned bits = panel.width == 6 ? 0x3F : 0xFF;
+                unsigned expected = row & bits;
+                if (table[attribute % 16].shows == REVERSE) expected = bits - expected;
+                if (table[attribute % 16].shows == INHIBIT) expected = 0;
+                registers.phase = SECOND_PHASE_NORMAL;
+                if (second_displayed_byte(&panel, &registers, memory, rom, 0, 0) != expected) wrong++;
+                if (table[attribute % 16].blinks) expected = 0;
+                registers.phase = SECOND_PHASE_OFF;
+                if (second_displayed_byte(&panel, &registers, memory, rom, 0, 0) != expected) wrong++;
+            }
+        }
+    }
+    point("every attribute byte on every glyph row, both widths and phases", wrong == 0);
+    memory[0] = memory[0x800] = 0;
+}
+
 int main(void)
 {
     reset_state();
@@ -329,5 +367,6 @@ int main(void)
     limits();
     single_access();
     frame_packing();
+    attribute_codes();
     return 0;
 }

@@ -96,22 +96,16 @@ static unsigned glyph_row(const struct second_registers *registers, const unsign
     return memory[2048UL * registers->offset + 8 * code + v];
 }
 
-/* text and the reply have 0 above the low bits. */
+/* text and the reply have 0 above the low bits. Bit 3 blinks, whatever the low three bits show. */
 static unsigned attributed(const struct second_panel *panel, const struct second_registers *registers,
                            unsigned attribute, unsigned text)
 {
-    int off = registers->phase == SECOND_PHASE_OFF;
-    switch (attribute % 16) {
-    case 5:
-        return ~text & low_bits(panel);
+    if (attribute % 16 >= 8 && registers->phase == SECOND_PHASE_OFF) return 0;
+    switch (attribute % 8) {
     case 3:
         return 0;
-    case 8:
-        return off ? 0 : text;
-    case 13:
-        return off ? 0 : ~text & low_bits(panel);
-    case 11:
-        return 0;
+    case 5:
+        return ~text & low_bits(panel);
     default:
         return text;
     }

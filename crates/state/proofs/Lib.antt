@@ -1,2 +1,3 @@
+pub mod LeftOver
 pub mod Valid
 pub mod Widths

@@ -1,15 +1,15 @@
 -- 01, A displayed byte: the table of the sixteen attribute codes, and what it does to a glyph row.
 use Prim.Native.Nat.{ℕ, _-_, _%_, _^_}
-use mathlib.Core.Bool.{Bool, cond, not, _&&_, _||_}
-use lib.Dec.{eqb}
+use mathlib.Core.Bool.{Bool, cond, not, _&&_}
+use lib.Dec.{leb, eqb}
 use Rattle.state.specs.Types.{Manner, Normal, Reverse, Inhibit, Look}
 
--- the table: 0 normal, 5 reverse, 3 inhibit; 8, 13, 11 the same with blink; the other ten normal, steady (H)
+-- the table: low three bits 5 reverse, 3 inhibit, else normal; bit 3 blinks (02, Req 04)
 unfoldable pub lookOf : ℕ → Look
 lookOf n =
     record {
-      shown = cond (eqb n 5 || eqb n 13) Reverse (cond (eqb n 3 || eqb n 11) Inhibit Normal);
-      blinks = eqb n 8 || eqb n 13 || eqb n 11;
+      shown = cond (eqb (n % 8) 5) Reverse (cond (eqb (n % 8) 3) Inhibit Normal);
+      blinks = leb 8 n;
     }
 
 -- normal; reverse, w bits complemented; inhibit, 0

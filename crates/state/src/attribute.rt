@@ -46,24 +46,29 @@ const INHIBIT_BLINKING: Look = Look {
     blinks: true,
 };
 
+// The ten codes that the makers' documents do not list.
+const LEFT_OVER: Look = NORMAL;
+
+const LEFT_OVER_BLINKING: Look = NORMAL_BLINKING;
+
 // One row for each of the sixteen attribute codes.
 pub const LOOKS: [Look; 16] = [
     NORMAL,
-    NORMAL,
-    NORMAL,
+    LEFT_OVER,
+    LEFT_OVER,
     INHIBIT,
-    NORMAL,
+    LEFT_OVER,
     REVERSE,
-    NORMAL,
-    NORMAL,
+    LEFT_OVER,
+    LEFT_OVER,
     NORMAL_BLINKING,
-    NORMAL,
-    NORMAL,
+    LEFT_OVER_BLINKING,
+    LEFT_OVER_BLINKING,
     INHIBIT_BLINKING,
-    NORMAL,
+    LEFT_OVER_BLINKING,
     REVERSE_BLINKING,
-    NORMAL,
-    NORMAL,
+    LEFT_OVER_BLINKING,
+    LEFT_OVER_BLINKING,
 ];
 
 // The table's row for an attribute byte, whose low four bits are its code.
