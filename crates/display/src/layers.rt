@@ -15,7 +15,7 @@ use super::cell::glyph;
 use super::cell::look_shows;
 use super::cell::low;
 use super::cell::mix;
-use state::attribute::LOOKS;
+use state::attribute::looks;
 use state::combination::is_attribute;
 use state::panel::Panel;
 use state::registers::Display;
@@ -40,10 +40,10 @@ fn shades(width: usize, normal: bool, lit: &mut [u8], dark: &mut [u8])
     ensures { λ _. ⌜ now (lit .exit) ≡ build 16 (λ n. attributed width normal n (2 ^ width - 1)) ⌝ }
     ensures { λ _. ⌜ now (dark .exit) ≡ build 16 (λ n. attributed width normal n 0) ⌝ }
 {
-    let looks = LOOKS;
+    let table = looks();
     let all = full(width);
     for code in 0..16 {
-        let look = looks[code];
+        let look = table[code];
         lit[code] = look_shows(look, width, normal, all);
         dark[code] = look_shows(look, width, normal, 0);
     }

@@ -1,3 +1,4 @@
 pub mod LeftOver
+pub mod Tables
 pub mod Valid
 pub mod Widths

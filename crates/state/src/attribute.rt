@@ -1,6 +1,7 @@
 // The attribute codes.
 ghost use mathlib.Core.Path.{_≡_};
 ghost use Prim.Native.Nat.{_%_};
+ghost use Rattle.ground.specs.Lists.{build};
 ghost use Rattle.state.specs.Attribute.{lookOf};
 
 // How a glyph row is shown.
@@ -52,7 +53,7 @@ const LEFT_OVER: Look = NORMAL;
 const LEFT_OVER_BLINKING: Look = NORMAL_BLINKING;
 
 // One row for each of the sixteen attribute codes.
-pub const LOOKS: [Look; 16] = [
+const LOOKS: [Look; 16] = [
     NORMAL,
     LEFT_OVER,
     LEFT_OVER,
@@ -71,10 +72,18 @@ pub const LOOKS: [Look; 16] = [
     LEFT_OVER_BLINKING,
 ];
 
+// The table, for all that look codes up in it.
+pub fn looks() -> [Look; 16]
+    ensures { λ r. ⌜ r ≡ build 16 lookOf ⌝ }
+{
+    LOOKS
+}
+
 // The table's row for an attribute byte, whose low four bits are its code.
 pub fn look_at(attribute: u8) -> Look
     ensures { λ r. ⌜ r ≡ lookOf (attribute % 16) ⌝ }
 {
     let code = (attribute % 16) as usize;
-    LOOKS[code]
+    let table = looks();
+    table[code]
 }
