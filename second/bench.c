@@ -36,7 +36,7 @@ static double median(double *values)
 static void report(const char *what, double units, double *proved, double *second, double *fast)
 {
     const double p = units / median(proved), s = units / median(second), f = units / median(fast);
-    printf("%-38s %12.0f/s   second %12.0f/s (%.2f)   fast C %12.0f/s (%.2f)\n", what, p, s, p / s, f, p / f);
+    printf("%-38s %12.0f/s   second %12.0f/s (%.2f)   fast C %12.0f/s (%.3f)\n", what, p, s, p / s, f, p / f);
 }
 
 static unsigned long put(unsigned long at, unsigned kind, unsigned byte)
