@@ -1,5 +1,5 @@
 -- 01, Screens: the operations, their checks, their pairs.
-use Prim.Native.Nat.{ℕ, zero, suc, _+_, _-_, _*_, _/_, _%_}
+use Prim.Native.Nat.{ℕ, _+_, _-_, _*_, _/_, _%_}
 use mathlib.Core.Bool.{Bool, cond, _&&_}
 use mathlib.Core.List.{List, [], _∷_}
 use lib.Dec.{ltb, leb, eqb}
@@ -53,54 +53,67 @@ operationOf book (Combine k) = combine k
 abbrev pub sized : ℕ → ℕ → ℕ → Bool → Placed → Found
 sized at end size inRange o = cond (leb (at + size) end && inRange) (Found-Operation o (at + size)) Faulty
 
+-- the byte of an operation that begins at a byte of the book
+abbrev pub byteIn : List ℕ → ℕ → ℕ → ℕ
+byteIn book at k = getD book (at + k) 0
+
 -- 1 line col n codes: n 1 to 80, col + n at most C, line below L
+abbrev pub textFound : Panel → ℕ → ℕ → ℕ → ℕ → ℕ → Found
+textFound p at end line column n =
+    sized at end (4 + n)
+    (ltb line (p .lines) && leb 1 n && leb n 80 && leb (column + n) (p .columns))
+    (Text line column (at + 4) n)
+
 abbrev pub readText : Panel → List ℕ → ℕ → ℕ → Found
-readText p book at end =
-    sized at end (4 + getD book (at + 3) 0)
-    (ltb (getD book (at + 1) 0) (p .lines) && leb 1 (getD book (at + 3) 0) && leb (getD book (at + 3) 0) 80
-    && leb (getD book (at + 2) 0 + getD book (at + 3) 0) (p .columns))
-    (Text (getD book (at + 1) 0) (getD book (at + 2) 0) (at + 4) (getD book (at + 3) 0))
+readText p book at end = textFound p at end (byteIn book at 1) (byteIn book at 2) (byteIn book at 3)
 
 -- 2 top col height width value: height and width at least 1, inside the panel
+abbrev pub rectangleFound : Panel → ℕ → ℕ → ℕ → ℕ → ℕ → ℕ → ℕ → Found
+rectangleFound p at end top column height width value =
+    sized at end 6
+    (leb 1 height && leb 1 width && leb (top + height) (8 * p .lines) && leb (column + width) (p .columns))
+    (Rectangle top column height width value)
+
 abbrev pub readRectangle : Panel → List ℕ → ℕ → ℕ → Found
 readRectangle p book at end =
-    sized at end 6
-    (leb 1 (getD book (at + 3) 0) && leb 1 (getD book (at + 4) 0)
-    && leb (getD book (at + 1) 0 + getD book (at + 3) 0) (8 * p .lines)
-    && leb (getD book (at + 2) 0 + getD book (at + 4) 0) (p .columns))
-    (Rectangle (getD book (at + 1) 0) (getD book (at + 2) 0) (getD book (at + 3) 0) (getD book (at + 4) 0) (getD book (at + 5) 0))
+    rectangleFound p at end (byteIn book at 1) (byteIn book at 2) (byteIn book at 3) (byteIn book at 4) (byteIn book at 5)
 
 -- 3 xlow xhigh y v: x below C·w, y below 8L, v 0 or 1
+abbrev pub dotFound : Panel → ℕ → ℕ → ℕ → ℕ → ℕ → Found
+dotFound p at end x y v =
+    sized at end 5 (ltb x (p .columns * p .width) && ltb y (8 * p .lines) && leb v 1) (Dot x y (eqb v 1))
+
 abbrev pub readDot : Panel → List ℕ → ℕ → ℕ → Found
-readDot p book at end =
-    sized at end 5
-    (ltb (wordAt book (at + 1)) (p .columns * p .width) && ltb (getD book (at + 3) 0) (8 * p .lines)
-    && leb (getD book (at + 4) 0) 1)
-    (Dot (wordAt book (at + 1)) (getD book (at + 3) 0) (eqb (getD book (at + 4) 0) 1))
+readDot p book at end = dotFound p at end (wordAt book (at + 1)) (byteIn book at 3) (byteIn book at 4)
 
 -- 4 code eight rows: code 80H or more
+abbrev pub glyphFound : ℕ → ℕ → ℕ → Found
+glyphFound at end code = sized at end 10 (leb 0x80 code) (Glyph code (at + 2))
+
 abbrev pub readGlyph : Panel → List ℕ → ℕ → ℕ → Found
-readGlyph p book at end =
-    sized at end 10
-    (leb 0x80 (getD book (at + 1) 0))
-    (Glyph (getD book (at + 1) 0) (at + 2))
+readGlyph p book at end = glyphFound at end (byteIn book at 1)
 
 -- 5 line col height blink: line below L, col below C, height 1 to 8, blink 0 or 1
+abbrev pub cursorFound : Panel → ℕ → ℕ → ℕ → ℕ → ℕ → ℕ → Found
+cursorFound p at end line column height blink =
+    sized at end 5
+    (ltb line (p .lines) && ltb column (p .columns) && leb 1 height && leb height 8 && leb blink 1)
+    (Cursor line column height (eqb blink 1))
+
 abbrev pub readCursor : Panel → List ℕ → ℕ → ℕ → Found
 readCursor p book at end =
-    sized at end 5
-    (ltb (getD book (at + 1) 0) (p .lines) && ltb (getD book (at + 2) 0) (p .columns) && leb 1 (getD book (at + 3) 0)
-    && leb (getD book (at + 3) 0) 8 && leb (getD book (at + 4) 0) 1)
-    (Cursor (getD book (at + 1) 0) (getD book (at + 2) 0) (getD book (at + 3) 0) (eqb (getD book (at + 4) 0) 1))
+    cursorFound p at end (byteIn book at 1) (byteIn book at 2) (byteIn book at 3) (byteIn book at 4)
 
 -- 0 OR, 1 EXOR, 2 AND
 abbrev pub combinationOf : ℕ → Combination
 combinationOf k = cond (eqb k 0) Or (cond (eqb k 1) Exor And)
 
 -- 6 k
+abbrev pub combineFound : ℕ → ℕ → ℕ → Found
+combineFound at end k = sized at end 2 (leb k 2) (Combine (combinationOf k))
+
 abbrev pub readCombine : List ℕ → ℕ → ℕ → Found
-readCombine book at end =
-    sized at end 2 (leb (getD book (at + 1) 0) 2) (Combine (combinationOf (getD book (at + 1) 0)))
+readCombine book at end = combineFound at end (byteIn book at 1)
 
 -- an operation begins at a byte of the book, in a body that ends before end
 unfoldable pub foundHere : Panel → List ℕ → ℕ → ℕ → Found

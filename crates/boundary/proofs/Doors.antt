@@ -11,7 +11,7 @@ use Rattle.ground.proofs.Tests.{both-left}
 use Rattle.state.specs.State.{validPanel, validRegisters, resetRegisters}
 use Rattle.boundary.specs.Types.{Panel, Registers, Entry, State, Refused}
 use Rattle.boundary.specs.Image.{readable, stateOf, bytesOf}
-use Rattle.boundary.specs.Door.{entryOf, closes, keptOf, countsOf}
+use Rattle.boundary.specs.Door.{doorOf, closes, keptOf, countsOf}
 
 answerOf : List ℕ → Bool → Bool → Bool → Bool → Entry
 answerOf b panel fits stands lent = cond panel (cond fits (cond stands (cond lent (State (stateOf b)) (Refused 2)) (Refused 1)) (Refused 2)) (Refused 1)
@@ -29,17 +29,17 @@ module _ (p : Panel) (lent : Bool) (b : List ℕ) where
   abbrev stands : Bool
   stands = readable b && validRegisters (stateOf b)
 
-  entry-is : {v w x y : Bool} → validPanel p ≡ v → eqb (length b) 25 ≡ w → stands ≡ x → lent ≡ y → entryOf p lent b ≡ answerOf b v w x y
-  unfolding entryOf answerOf
+  entry-is : {v w x y : Bool} → validPanel p ≡ v → eqb (length b) 25 ≡ w → stands ≡ x → lent ≡ y → doorOf p lent b ≡ answerOf b v w x y
+  unfolding doorOf answerOf
   entry-is i j k l = λ t. answerOf b (i t) (j t) (k t) (l t)
 
   module _ {v : Bool} (i : v ≡ validPanel p) where
-    pub enter-panel : v ≡ false → Refused 1 ≡ entryOf p lent b
+    pub enter-panel : v ≡ false → Refused 1 ≡ doorOf p lent b
     unfolding answerOf
     enter-panel e = sym (entry-is (sym i ∙ e) refl refl refl)
 
     module _ (e : v ≡ true) where
-      pub enter-length : (length b ≡ 25 → ⊥) → Refused 2 ≡ entryOf p lent b
+      pub enter-length : (length b ≡ 25 → ⊥) → Refused 2 ≡ doorOf p lent b
       unfolding answerOf
       enter-length j = sym (entry-is (sym i ∙ e) (ne-eqb (length b) 25 j) refl refl)
 
@@ -47,15 +47,15 @@ module _ (p : Panel) (lent : Bool) (b : List ℕ) where
         both-are : {t : Bool} → (x && y) ≡ t → stands ≡ t
         both-are f = (λ t. sym k t && (ap validRegisters (sym h) ∙ sym l) t) ∙ f
 
-        pub enter-bytes : (x && y) ≡ false → Refused 1 ≡ entryOf p lent b
+        pub enter-bytes : (x && y) ≡ false → Refused 1 ≡ doorOf p lent b
         unfolding answerOf
         enter-bytes f = sym (entry-is (sym i ∙ e) (eq-eqb (length b) 25 j) (both-are f) refl)
 
-        pub enter-lent : (x && y) ≡ true → lent ≡ false → Refused 2 ≡ entryOf p lent b
+        pub enter-lent : (x && y) ≡ true → lent ≡ false → Refused 2 ≡ doorOf p lent b
         unfolding answerOf
         enter-lent f g = sym (entry-is (sym i ∙ e) (eq-eqb (length b) 25 j) (both-are f) g)
 
-        pub enter-state : (x && y) ≡ true → lent ≡ true → State r ≡ entryOf p lent b
+        pub enter-state : (x && y) ≡ true → lent ≡ true → State r ≡ doorOf p lent b
         unfolding answerOf
         enter-state f g = ap State h ∙ sym (entry-is (sym i ∙ e) (eq-eqb (length b) 25 j) (both-are f) g)
 
@@ -74,7 +74,7 @@ module _ (p : Panel) (lent : Bool) (b : List ℕ) where
   past true false x y h = absurd (false≢true (ap isState h))
   past false w x y h = absurd (false≢true (ap isState h))
 
-  module _ {x : Entry} {r : Registers} (h : x ≡ entryOf p lent b) (k : x ≡ State r) where
+  module _ {x : Entry} {r : Registers} (h : x ≡ doorOf p lent b) (k : x ≡ State r) where
     entered : Past (eqb (length b) 25) stands lent r
     entered = past (validPanel p) (eqb (length b) 25) stands lent (sym (entry-is refl refl refl refl) ∙ sym h ∙ k)
 

@@ -15,10 +15,10 @@ use Rattle.controller.specs.Access.{Pair, replied, accessOf}
 use Rattle.controller.specs.Run.{ranAll, runOf}
 use Rattle.boundary.specs.Types.{Panel, Registers, Acted, Ran, Reply, Entry, State, Refused}
 use Rattle.boundary.specs.Image.{bytesOf}
-use Rattle.boundary.specs.Door.{entryOf, keptOf, countsOf}
+use Rattle.boundary.specs.Door.{doorOf, keptOf, countsOf}
 use Rattle.boundary.specs.Exports.{AccessEnd, accessEnd, accessDone, accessBy, accessBytes, RunEnd, runEnd, runDone, runBy, runBytes, PaintEnd, paintEnd, paintDone, paintBy, paintBytes, ResetEnd, resetEnd, resetBytes}
 
-module _ (p : Panel) (b mem rom : List ℕ) (q : Pair) {x : Entry} (h : x ≡ entryOf p true b) where
+module _ (p : Panel) (b mem rom : List ℕ) (q : Pair) {x : Entry} (h : x ≡ doorOf p true b) where
   access-by : {y : Entry} → x ≡ y → accessBy y p b mem rom q ≡ accessBytes p b mem rom q
   unfolding accessBytes
   access-by e = ap (λ (y : Entry). accessBy y p b mem rom q) (sym e ∙ h)
@@ -30,7 +30,7 @@ module _ (p : Panel) (b mem rom : List ℕ) (q : Pair) {x : Entry} (h : x ≡ en
       → l ≡ keptOf (a .number) (a .registers) b → w ≡ wordOf (a .number) (a .answer) → accessEnd w l m ≡ accessBytes p b mem rom q
   access-done {m = m} e f k g = (λ i. accessEnd (g i) (k i) m) ∙ ap (accessDone b) f ∙ access-by e
 
-module _ (p : Panel) (b mem rom log : List ℕ) (limit : ℕ) (answers k : List ℕ) {x : Entry} (h : x ≡ entryOf p (eqb (length k) 3) b) where
+module _ (p : Panel) (b mem rom log : List ℕ) (limit : ℕ) (answers k : List ℕ) {x : Entry} (h : x ≡ doorOf p (eqb (length k) 3) b) where
   run-by : {y : Entry} → x ≡ y → runBy y p b mem rom log limit answers k ≡ runBytes p b mem rom log limit answers k
   unfolding runBytes
   run-by e = ap (λ (y : Entry). runBy y p b mem rom log limit answers k) (sym e ∙ h)
@@ -43,7 +43,7 @@ module _ (p : Panel) (b mem rom log : List ℕ) (limit : ℕ) (answers k : List 
       → runEnd (a .number) l m c s ≡ runBytes p b mem rom log limit answers k
   run-done {a = a} {m = m} {c = c} e f g t = (λ i. runEnd (a .number) (g i) m c (t i)) ∙ ap (runDone b k) f ∙ run-by e
 
-module _ (p : Panel) (b mem rom frame : List ℕ) {x : Entry} (h : x ≡ entryOf p true b) where
+module _ (p : Panel) (b mem rom frame : List ℕ) {x : Entry} (h : x ≡ doorOf p true b) where
   paint-by : {y : Entry} → x ≡ y → paintBy y p mem rom frame ≡ paintBytes p b mem rom frame
   unfolding paintBytes
   paint-by e = ap (λ (y : Entry). paintBy y p mem rom frame) (sym e ∙ h)

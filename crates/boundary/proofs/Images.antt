@@ -13,7 +13,7 @@ use Rattle.ground.specs.Lists.{build}
 use Rattle.ground.proofs.Lists.{build-length, build-at}
 use Rattle.ground.proofs.Tests.{both-left, both-right}
 use Rattle.boundary.specs.Types.{Combination, Or, Exor, And, Attribute, Auto, Off, Write, Read, Registers}
-use Rattle.boundary.specs.Image.{flagByte, combinationByte, combinationOf, autoByte, autoOf, bytesOf, readable, displayOf, busOf, stateOf}
+use Rattle.boundary.specs.Image.{flagByte, combinationByte, combinationIn, autoByte, autoOf, bytesOf, readable, displayOf, busOf, stateOf}
 
 -- a list is built of its elements
 listed : (n : ℕ) (l : List ℕ) → length l ≡ n → build n (λ i. getD l i 0) ≡ l
@@ -29,7 +29,7 @@ bytes-length r = refl
 pub copied : {l out : List ℕ} (r : Registers) → l ≡ bytesOf r → out ≡ build 25 (λ i. getD l i 0) → out ≡ bytesOf r
 copied {l} r h k = k ∙ listed 25 l (ap length h ∙ bytes-length r) ∙ h
 
-combination-back : (k : Combination) → combinationOf (combinationByte k) ≡ k
+combination-back : (k : Combination) → combinationIn (combinationByte k) ≡ k
 combination-back Or = refl
 combination-back Exor = refl
 combination-back And = refl
@@ -100,7 +100,7 @@ bytes-readable r =
     && flag-readable (r .display .bits .cursor) i && flag-readable (r .display .bits .blink) i
     && auto-readable (r .bus .auto) i && flag-readable (r .bus .error) i && flag-readable (r .display .phase) i
 
-combination-forth : (n : ℕ) → leb n 3 ≡ true → combinationByte (combinationOf n) ≡ n
+combination-forth : (n : ℕ) → leb n 3 ≡ true → combinationByte (combinationIn n) ≡ n
 combination-forth zero e = refl
 combination-forth (suc zero) e = refl
 combination-forth (suc (suc zero)) e = refl

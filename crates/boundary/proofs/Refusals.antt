@@ -18,7 +18,7 @@ use Rattle.effects.specs.Machine.{Machine, machine}
 use Rattle.controller.specs.Run.{pairsOf, Standing, Turn, went, halted, turnOf, short, afterTurn, runFrom, endNumber, RanAll, runOf}
 use Rattle.boundary.specs.Types.{Panel, Registers, Entry, State, Refused}
 use Rattle.boundary.specs.Image.{bytesOf}
-use Rattle.boundary.specs.Door.{entryOf, closes, keptOf}
+use Rattle.boundary.specs.Door.{doorOf, closes, keptOf}
 use Rattle.boundary.specs.Exports.{accessBy, accessBytes, RunEnd, runDone, runBy, runBytes, paintBy, paintBytes}
 use Rattle.boundary.proofs.Doors.{entered-length, entered-readable, entered-state}
 use Rattle.boundary.proofs.Images.{bytes-back}
@@ -43,7 +43,7 @@ module _ (p : Panel) (r : Registers) (mem rom : List ℕ) (q : Pair) where
 
 module _ (p : Panel) (b mem rom : List ℕ) (q : Pair) (h : (i : ℕ) → getD b i 0 < 256) where
   -- the registers buffer after a refused access, written back or not
-  kept : {x : Entry} {r s : Registers} (n : ℕ) → x ≡ entryOf p true b → x ≡ State r → s ≡ r → keptOf n s b ≡ b
+  kept : {x : Entry} {r s : Registers} (n : ℕ) → x ≡ doorOf p true b → x ≡ State r → s ≡ r → keptOf n s b ≡ b
   kept n e k f =
       cond-has (λ (l : List ℕ). l ≡ b) (closes n) refl
       (ap bytesOf (f ∙ sym (entered-state p true b e k)) ∙ bytes-back b (entered-length p true b e k) (entered-readable p true b e k) h)
@@ -52,14 +52,14 @@ module _ (p : Panel) (b mem rom : List ℕ) (q : Pair) (h : (i : ℕ) → getD b
   pub access-untouched : (accessBytes p b mem rom q .result % 256 ≡ 0 → ⊥)
       → (accessBytes p b mem rom q .registers ≡ b) × (accessBytes p b mem rom q .memory ≡ mem)
   unfolding accessBytes Stands
-  access-untouched = go (entryOf p true b) refl
+  access-untouched = go (doorOf p true b) refl
     where
-      of : (r : Registers) (o : Accessed) → entryOf p true b ≡ State r → Stands p r mem rom q o → (wordOf (o .acted .number) (o .acted .answer) % 256 ≡ 0 → ⊥)
+      of : (r : Registers) (o : Accessed) → doorOf p true b ≡ State r → Stands p r mem rom q o → (wordOf (o .acted .number) (o .acted .answer) % 256 ≡ 0 → ⊥)
           → (keptOf (o .acted .number) (o .acted .registers) b ≡ b) × (o .memory ≡ mem)
       of r o e (inl z) k = absurd (k (omega arith))
       of r o e (inr s) k = (kept (o .acted .number) refl e (s .0), s .1)
 
-      go : (x : Entry) → entryOf p true b ≡ x → (accessBy x p b mem rom q .result % 256 ≡ 0 → ⊥)
+      go : (x : Entry) → doorOf p true b ≡ x → (accessBy x p b mem rom q .result % 256 ≡ 0 → ⊥)
           → (accessBy x p b mem rom q .registers ≡ b) × (accessBy x p b mem rom q .memory ≡ mem)
       go (Refused n) e k = (refl, refl)
       go (State r) e k = of r (accessOf p r mem rom q) e (access-stands p r mem rom q) k
@@ -67,7 +67,7 @@ module _ (p : Panel) (b mem rom : List ℕ) (q : Pair) (h : (i : ℕ) → getD b
 -- a frame that is refused stays
 pub paint-untouched : (p : Panel) (b mem rom frame : List ℕ) → (paintBytes p b mem rom frame .number ≡ 0 → ⊥) → paintBytes p b mem rom frame .frame ≡ frame
 unfolding paintBytes paintOf
-paint-untouched p b mem rom frame = go (entryOf p true b)
+paint-untouched p b mem rom frame = go (doorOf p true b)
   where
     go : (x : Entry) → (paintBy x p mem rom frame .number ≡ 0 → ⊥) → paintBy x p mem rom frame .frame ≡ frame
     go (Refused n) = λ k. refl
@@ -151,7 +151,7 @@ module _ (p : Panel) (b mem rom log : List ℕ) (limit : ℕ) (answers k : List 
 
   pub run-untouched : closes (runBytes p b mem rom log limit answers k .number) ≡ true → RunStays (runBytes p b mem rom log limit answers k)
   unfolding runBytes Stays
-  run-untouched = go (entryOf p (eqb (length k) 3) b)
+  run-untouched = go (doorOf p (eqb (length k) 3) b)
     where
       of : (o : RanAll) → Stays o → closes (o .ran .number) ≡ true → RunStays (runDone b k o)
       of o s e =

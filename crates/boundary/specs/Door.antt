@@ -10,8 +10,8 @@ use Rattle.boundary.specs.Image.{bytesOf, readable, stateOf}
 
 -- 1 panel not valid; 2 registers of another length than 25, which can't be read; 1 bytes that are no registers, or no valid ones;
 -- 2 another buffer not as lent
-unfoldable pub entryOf : Panel → Bool → List ℕ → Entry
-entryOf p lent b =
+unfoldable pub doorOf : Panel → Bool → List ℕ → Entry
+doorOf p lent b =
     cond (validPanel p)
     (cond (eqb (length b) 25)
     (cond (readable b && validRegisters (stateOf b)) (cond lent (State (stateOf b)) (Refused 2)) (Refused 1))

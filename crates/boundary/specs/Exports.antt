@@ -11,7 +11,7 @@ use Rattle.controller.specs.Access.{Pair, Accessed, accessOf}
 use Rattle.controller.specs.Run.{RanAll, runOf}
 use Rattle.boundary.specs.Types.{Panel, Entry, State, Refused}
 use Rattle.boundary.specs.Image.{bytesOf}
-use Rattle.boundary.specs.Door.{entryOf, keptOf, countsOf}
+use Rattle.boundary.specs.Door.{doorOf, keptOf, countsOf}
 
 abbrev pub panelOf : ℕ → ℕ → ℕ → Panel
 panelOf columns lines width = record { columns = columns; lines = lines; width = width }
@@ -35,7 +35,7 @@ accessBy (State r) p b mem rom q = accessDone b (accessOf p r mem rom q)
 accessBy (Refused n) p b mem rom q = accessEnd n b mem
 
 unfoldable pub accessBytes : Panel → List ℕ → List ℕ → List ℕ → Pair → AccessEnd
-accessBytes p b mem rom q = accessBy (entryOf p true b) p b mem rom q
+accessBytes p b mem rom q = accessBy (doorOf p true b) p b mem rom q
 
 -- a run
 pub record RunEnd : Type 0 where
@@ -61,7 +61,7 @@ runBy (Refused n) p b mem rom log limit answers k = runEnd n b mem answers k
 -- the counts are exactly three
 unfoldable pub runBytes : Panel → List ℕ → List ℕ → List ℕ → List ℕ → ℕ → List ℕ → List ℕ → RunEnd
 runBytes p b mem rom log limit answers k =
-    runBy (entryOf p (eqb (length k) 3) b) p b mem rom log limit answers k
+    runBy (doorOf p (eqb (length k) 3) b) p b mem rom log limit answers k
 
 -- a frame
 pub record PaintEnd : Type 0 where
@@ -79,7 +79,7 @@ paintBy (State r) p mem rom frame = paintDone (paintOf p r mem rom frame)
 paintBy (Refused n) p mem rom frame = paintEnd n frame
 
 unfoldable pub paintBytes : Panel → List ℕ → List ℕ → List ℕ → List ℕ → PaintEnd
-paintBytes p b mem rom frame = paintBy (entryOf p true b) p mem rom frame
+paintBytes p b mem rom frame = paintBy (doorOf p true b) p mem rom frame
 
 -- a reset
 pub record ResetEnd : Type 0 where

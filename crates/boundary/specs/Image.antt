@@ -17,8 +17,8 @@ combinationByte Exor = 1
 combinationByte And = 2
 combinationByte Attribute = 3
 
-abbrev pub combinationOf : ℕ → Combination
-combinationOf n = cond (eqb n 0) Or (cond (eqb n 1) Exor (cond (eqb n 2) And Attribute))
+abbrev pub combinationIn : ℕ → Combination
+combinationIn n = cond (eqb n 0) Or (cond (eqb n 1) Exor (cond (eqb n 2) And Attribute))
 
 -- 0 off, 1 write, 2 read
 abbrev pub autoByte : Auto → ℕ
@@ -57,7 +57,7 @@ displayOf b =
       text = record { home = wordOf (getD b 5 0) (getD b 6 0); area = getD b 9 0 };
       graphic = record { home = wordOf (getD b 7 0) (getD b 8 0); area = getD b 10 0 };
       offset = getD b 2 0;
-      combination = combinationOf (getD b 11 0);
+      combination = combinationIn (getD b 11 0);
       external = eqb (getD b 12 0) 1;
       bits = record {
         graphic = eqb (getD b 13 0) 1;

@@ -1,7 +1,7 @@
 // What each export does before the controller is asked, and after.
 ghost use mathlib.Core.Path.{_≡_};
 ghost use lib.ListN.{length};
-ghost use Rattle.boundary.specs.Door.{entryOf, closes, keptOf, countsOf};
+ghost use Rattle.boundary.specs.Door.{doorOf, closes, keptOf, countsOf};
 use super::image::decode;
 use super::image::encode;
 use super::image::is_readable;
@@ -16,7 +16,7 @@ pub(crate) enum Entry {
 
 // `lent` says whether the other buffers whose length is fixed here have it; that is asked last, since 1 comes before 2.
 pub(crate) fn enter(panel: Panel, lent: bool, bytes: &[u8]) -> Entry
-    ensures { λ r. ⌜ r ≡ entryOf panel lent (now (bytes .entry)) ⌝ }
+    ensures { λ r. ⌜ r ≡ doorOf panel lent (now (bytes .entry)) ⌝ }
 {
     if panel.valid() {
         if bytes.len() == 25 {

@@ -1,7 +1,7 @@
 // The registers as 25 bytes, and back.
 ghost use mathlib.Core.Path.{_≡_};
 ghost use lib.ListN.{length};
-ghost use Rattle.boundary.specs.Image.{flagByte, combinationByte, autoByte, bytesOf, combinationOf, autoOf, readable, displayOf, busOf, stateOf};
+ghost use Rattle.boundary.specs.Image.{flagByte, combinationByte, autoByte, bytesOf, combinationIn, autoOf, readable, displayOf, busOf, stateOf};
 use ground::bytes::word;
 use state::registers::Auto;
 use state::registers::Bus;
@@ -114,7 +114,7 @@ pub(crate) fn is_readable(bytes: &[u8]) -> bool
 }
 
 fn combination_of(byte: u8) -> Combination
-    ensures { λ r. ⌜ r ≡ combinationOf byte ⌝ }
+    ensures { λ r. ⌜ r ≡ combinationIn byte ⌝ }
 {
     match byte {
         0 => Combination::Or,

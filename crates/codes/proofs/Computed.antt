@@ -3,11 +3,9 @@ use mathlib.Core.Path.{_≡_, refl, ap, ap₂, _∙_}
 use mathlib.Core.Bool.{Bool, true, false, cond}
 use Prim.Native.Nat.{ℕ, _+_, _-_, _/_, _%_, _≤_, _<_}
 use native.Mathlib.Omega.{arith}
-use lib.Dec.{ltb}
 use borrow.Author.Tests.{lt-ltb}
-use Rattle.state.specs.declared.registers.DisplayBits.{DisplayBits}
-use Rattle.codes.specs.Types.{DisplayMode, Height, Bit, Decoded, Defined, Undefined}
-use Rattle.codes.specs.Command.{has, heightOf, bitCodeOf, groupOf, decodeOf}
+use Rattle.codes.specs.Types.{DisplayMode, Height, Bit, Defined, Undefined}
+use Rattle.codes.specs.Command.{has, groupOf, decodeOf}
 
 -- A0H plus height-1
 pub decode-height : (h : ℕ) → 1 ≤ h → h ≤ 8 → decodeOf (0xa0 + (h - 1)) ≡ Defined (Height h)
@@ -20,18 +18,20 @@ decode-height h l m =
     ∙ ap (λ (n : ℕ). Defined (Height n)) is
 
 -- F0H or F8H plus the bit
-pub decode-bit : (on : Bool) (k : ℕ) → k < 8 → decodeOf (cond on 0xf8 0xf0 + k) ≡ Defined (Bit on (cond on 8 0 + k))
+pub decode-bit : (on : Bool) (k : ℕ) → k < 8 → decodeOf (cond on 0xf8 0xf0 + k) ≡ Defined (Bit on k)
 decode-bit true k l =
     let high : (0xf8 + k) / 16 ≡ 15 = omega arith in
     let low : (0xf8 + k) % 16 ≡ 8 + k = omega arith in
-    ap₂ groupOf high low ∙ ap (λ (b : Bool). Defined (Bit b (8 + k))) (set-3 k l)
+    let bit : (8 + k) % 8 ≡ k = omega arith in
+    ap₂ groupOf high low ∙ ap₂ (λ (b : Bool) (n : ℕ). Defined (Bit b n)) (set-3 k l) bit
   where
     set-3 : (k : ℕ) → k < 8 → has (8 + k) 3 ≡ true
     set-3 k l = let e : (8 + k) / 8 % 2 ≡ 1 = omega arith in cc
 decode-bit false k l =
     let high : (0xf0 + k) / 16 ≡ 15 = omega arith in
     let low : (0xf0 + k) % 16 ≡ 0 + k = omega arith in
-    ap₂ groupOf high low ∙ ap (λ (b : Bool). Defined (Bit b (0 + k))) (reset-3 k l)
+    let bit : (0 + k) % 8 ≡ k = omega arith in
+    ap₂ groupOf high low ∙ ap₂ (λ (b : Bool) (n : ℕ). Defined (Bit b n)) (reset-3 k l) bit
   where
     reset-3 : (k : ℕ) → k < 8 → has (0 + k) 3 ≡ false
     reset-3 k l = let e : (0 + k) / 8 % 2 ≡ 0 = omega arith in cc

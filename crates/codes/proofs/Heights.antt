@@ -11,7 +11,7 @@ use Rattle.state.specs.declared.registers.Combination.{Combination}
 use Rattle.state.specs.declared.registers.DisplayBits.{DisplayBits}
 use Rattle.codes.specs.declared.command.Target.{Target}
 use Rattle.codes.specs.declared.command.Move.{Move}
-use Rattle.codes.specs.Types.{Command, Set, Mode, DisplayMode, Height, Run, Store, Load, Peek, Copy, Bit, Decoded, Defined, Undefined}
+use Rattle.codes.specs.Types.{Set, Mode, DisplayMode, Height, Run, Store, Load, Peek, Copy, Bit, Decoded, Defined, Undefined}
 use Rattle.codes.specs.Command.{heightOf, groupOf, decodeOf}
 
 -- any command, but a height in range

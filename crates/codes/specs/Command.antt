@@ -69,7 +69,7 @@ sightCodeOf low = cond (eqb low 0) (Defined Peek) (cond (eqb low 8) (Defined Cop
 
 -- F0H-FFH: F0H up reset, F8H up set, the bit (code mod 8)
 abbrev pub bitCodeOf : ℕ → Decoded
-bitCodeOf low = Defined (Bit (has low 3) low)
+bitCodeOf low = Defined (Bit (has low 3) (low % 8))
 
 abbrev pub groupOf : ℕ → ℕ → Decoded
 groupOf high low =

@@ -34,7 +34,7 @@ pub enum Command {
     Load(Move),
     Peek,
     Copy,
-    // set or reset, and the code, whose low three bits say which bit
+    // set or reset, and which bit, 0 to 7
     Bit(bool, u8),
 }
 

@@ -111,7 +111,7 @@ fn sight_code(low: u8) -> Decoded
 fn bit_code(low: u8) -> Decoded
     ensures { λ r. ⌜ r ≡ bitCodeOf low ⌝ }
 {
-    Decoded::Defined(Command::Bit((low >> 3) % 2 == 1, low))
+    Decoded::Defined(Command::Bit((low >> 3) % 2 == 1, low % 8))
 }
 
 pub fn decode(code: u8) -> Decoded

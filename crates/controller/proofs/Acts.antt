@@ -1,24 +1,18 @@
 -- What each part of an access comes to, case by case, from what its calls give.
-use mathlib.Core.Path.{_≡_, refl, ap, sym, subst, _∙_}
+use mathlib.Core.Path.{_≡_, ap, sym, _∙_}
 use mathlib.Core.Bool.{Bool, true, false, cond, _&&_, _||_}
 use mathlib.Core.List.{List}
-use Prim.Native.Nat.{ℕ, _+_, _-_, _*_, _<_, _≤_}
+use Prim.Native.Nat.{ℕ, _-_, _<_, _≤_}
 use lib.Dec.{leb}
 use borrow.Author.Tests.{le-leb, lt-leb}
-use Rattle.ground.specs.Lists.{build, stored}
 use Rattle.ground.proofs.Tests.{settled}
 use Rattle.codes.specs.Command.{neededOf, isOff, endsAuto}
 use Rattle.state.specs.State.{validPanel, validRegisters, none}
-use Rattle.display.specs.Displayed.{addressOf, displayedByte}
-use Rattle.state.specs.Combination.{isAttribute}
 use Rattle.display.specs.Frame.{lentLengths}
-use Rattle.controller.specs.Types.{Panel, Plane, Registers, Bus, Command, Position, At, Nowhere, Acted}
-use Rattle.effects.specs.Effect.{withBus, withPending, withLatch, withError}
-use Rattle.sight.specs.Position.{positionOf}
-use Rattle.controller.specs.Access.{Pair, Step, done, answered, refused, effectOf, dropped, obeyOf, stepOf, Accessed, replied, accessed, actedOf, accessOf}
+use Rattle.controller.specs.Types.{Panel, Registers, Command, Acted}
+use Rattle.effects.specs.Effect.{withBus, withPending}
+use Rattle.controller.specs.Access.{Pair, done, refused, effectOf, dropped, obeyOf, stepOf, Accessed, replied, accessed, actedOf, accessOf}
 use Rattle.effects.specs.Machine.{Machine, machine}
-use Rattle.sight.specs.Sight.{peekOf, copiedOf, copyOf}
-use Rattle.sight.proofs.Positions.{Within, position-within}
 
 -- a defined code
 module _ (p : Panel) (rom : List ℕ) (s : Registers) (mem : List ℕ) (k : Command) {a b : Bool} (i : a ≡ endsAuto k) (j : b ≡ isOff (s .bus .auto)) where

@@ -1,11 +1,10 @@
 -- A block of data in auto write: its bytes stored from the pointer on, and the pointer behind them.
-use mathlib.Core.Path.{_≡_, refl, ap, sym, subst, _∙_}
+use mathlib.Core.Path.{_≡_, refl, ap, sym, _∙_}
 use mathlib.Core.Bool.{Bool, true, false, cond, false≢true}
 use mathlib.Core.List.{List, [], _∷_}
 use Prim.Native.Nat.{ℕ, zero, suc, _+_, _-_, _*_, _%_, _<_, _≤_}
 use native.Mathlib.Numerals.{add-one}
 use native.Mathlib.Omega.{arith}
-use lib.Dec.{eqb}
 use lib.ListN.{length, getD, take, drop, set, length-set}
 use lib.Seq.{drop-drop}
 use borrow.Author.Tests.{eq-eqb, ne-eqb}
@@ -13,8 +12,8 @@ use Rattle.ground.specs.Lists.{stored}
 use Rattle.controller.specs.Types.{Panel, Auto, Off, Write, Read, Registers}
 use Rattle.effects.specs.Effect.{withBus, withPointer, isWrite}
 use Rattle.controller.specs.Access.{Pair, dataWriteOf, stepOf}
-use Rattle.effects.specs.Machine.{Machine, machine}
-use Rattle.controller.specs.Run.{pairsOf, Run, turnOf, afterTurn, runFrom, short}
+use Rattle.effects.specs.Machine.{machine}
+use Rattle.controller.specs.Run.{pairsOf, turnOf, afterTurn, runFrom, short}
 use Rattle.controller.specs.Ready.{standing, pairsFrom, dataOf, Blocked}
 
 -- the pair at a place of a log

@@ -1,264 +1,139 @@
--- A run pair by pair: what is left from here comes to the whole.
+-- A run pair by pair, over any step and any property that it keeps: what is left from here comes to the whole.
 use mathlib.Core.Path.{_≡_, refl, ap, sym, subst, _∙_}
-use mathlib.Core.Bool.{Bool, true, false, cond, not, _&&_, _||_, false≢true}
+use mathlib.Core.Bool.{Bool, true, false, cond}
 use mathlib.Core.List.{List, [], _∷_}
-use Prim.Native.Nat.{ℕ, zero, suc, _+_, _-_, _*_, _%_, _<_, _≤_}
+use Prim.Native.Nat.{ℕ, suc, _+_, _-_, _*_, _<_, _≤_}
 use native.Mathlib.Numerals.{add-one}
 use native.Mathlib.Omega.{arith}
-use lib.Dec.{ltb, eqb}
+use lib.Dec.{ltb}
 use lib.ListN.{length, getD, take, drop, set, length-set}
-use borrow.Author.Tests.{eq-eqb, eqb-true, ltb-true}
-use Rattle.ground.specs.Lists.{stored}
-use Rattle.ground.proofs.Tests.{cond-has, both, both-left, both-right}
-use Rattle.ground.proofs.Stores.{stored-length}
-use Rattle.state.specs.State.{validPanel, none}
-use Rattle.codes.specs.Command.{isOff}
-use Rattle.display.specs.Frame.{lentLengths}
-use Rattle.controller.specs.Types.{Panel, Display, Auto, Off, Write, Read, Pending, Bus, Registers, Turned, Ran, Told, Drawn, Up}
-use Rattle.effects.specs.Effect.{withBus, withPointer, withAuto, withLatch, withPending, withPhase, pushed, movedOf, isWrite, isRead, busStatus}
-use Rattle.controller.specs.Access.{Pair, Step, done, answered, refused, dataWriteOf, dataReadOf, stepOf}
-use Rattle.effects.specs.Machine.{Machine, machine}
-use Rattle.controller.specs.Run.{pairsOf, Standing, Turn, went, halted, turnOf, End, whole, short, Run, afterTurn, runFrom, RanAll, ranAll, ranOf}
-use Rattle.controller.specs.Ready.{Runs, Tells, Draws, Blocked, pairsFrom, dataOf, standing, TurnedAll, turnedAll, turnedOf}
-use Rattle.controller.proofs.Blocks.{pairAt, pairs-here, pairs-behind, write-only, block-run}
-use Rattle.controller.proofs.Tells.{leaves}
-use Rattle.controller.proofs.Laws.{Sounds, sounds-valid, Leaves, step-sound}
-use Rattle.controller.proofs.Turns.{Answering, answers, declines, Acting, acts, refuses, step-answering, step-acting}
+use borrow.Author.Tests.{ltb-true}
+use Rattle.controller.specs.Access.{Pair, Step, done, answered, refused}
+use Rattle.controller.specs.Run.{pairsOf, Standing, Turn, went, halted, turnOf, End, whole, short, Run, afterTurn, runFrom}
+use Rattle.controller.proofs.Blocks.{pairAt, pairs-here}
+use Rattle.controller.proofs.Splits.{ended}
 
--- what a turn keeps: the machine sound, the answer buffer as long
-abbrev pub Keeps : Standing Machine → Turn Machine → Type 0
-Keeps s (went t) = Sounds (t .machine) × (length (t .answers) ≡ length (s .answers))
-Keeps s (halted n) = Unit {0}
+-- what a step leaves has a property, if it leaves anything
+abbrev pub Leaves : {M : Type 0} → (M → Type 0) → Step M → Type 0
+Leaves P (done m) = P m
+Leaves P (answered m b) = P m
+Leaves P (refused n) = Unit {0}
 
-pub turn-keeps : (s : Standing Machine) (o : Step Machine) → Leaves Sounds o → Keeps s (turnOf s o)
-turn-keeps s (done m) k = (k, refl)
-turn-keeps s (answered m b) k = go (ltb (s .given) (length (s .answers)))
-  where
-    go : (t : Bool) → Keeps s (cond t (went (record { machine = m; answers = set (s .answers) (s .given) b; given = s .given + 1 })) (halted 13))
-    go true = (k, length-set (s .answers) (s .given) b)
-    go false = tt
-turn-keeps s (refused n) k = tt
+-- what a turn keeps: the machine's property, the answer buffer's length
+abbrev pub Keeps : {M : Type 0} → (M → Type 0) → Standing M → Turn M → Type 0
+Keeps P s (went t) = P (t .machine) × (length (t .answers) ≡ length (s .answers))
+Keeps P s (halted n) = Unit {0}
 
 -- a pair taken, or refused by a number
-pub data Proper : Turn Machine → Type 0 where
-  goes : {t : Standing Machine} → Proper (went t)
+pub data Proper {M : Type 0} : Turn M → Type 0 where
+  goes : {t : Standing M} → Proper (went t)
   stops : {n : ℕ} → Proper (halted (suc n))
 
--- the code's turn with number 0 is a pair taken, and with another number one refused
-module _ {t : Turned} {m a : List ℕ} where
-  number-of : (s : Standing Machine) (o : Turn Machine) → turnedAll t m a ≡ turnedOf s o → t .number ≡ turnedOf s o .turned .number
-  number-of s o e = ap (λ (x : TurnedAll). x .turned .number) e
+-- an end, or a refusal by a number
+pub data Ends : End → Type 0 where
+  all : Ends whole
+  cut : {n : ℕ} → Ends (short (suc n))
 
-  pub turn-taken : (s : Standing Machine) (o : Turn Machine) → Proper o → turnedAll t m a ≡ turnedOf s o → t .number ≡ 0
-      → o ≡ went (standing (t .registers) m a (t .given))
-  turn-taken s (went x) goes e h =
-      sym (λ i. went (record { machine = machine (e i .turned .registers) (e i .memory); answers = e i .answers; given = e i .turned .given }))
-  turn-taken s (halted (suc n)) stops e h =
-      let z : 0 ≡ suc n = sym h ∙ number-of s (halted (suc n)) e in absurd (let y : ⊥ = omega arith in y)
-
-  pub turn-stopped : (s : Standing Machine) (o : Turn Machine) → turnedAll t m a ≡ turnedOf s o → (t .number ≡ 0 → ⊥) → (k : ℕ) (on : Standing Machine → Run Machine)
-      → ranAll (record { number = t .number; place = k; taken = k; answers = t .given; registers = t .registers }) m a
-      ≡ ranOf (afterTurn o on (λ n. record { standing = s; taken = k; end = short n }))
-  turn-stopped s (went x) e h k on = absurd (h (number-of s (went x) e))
-  turn-stopped s (halted n) e h k on =
-      λ i. ranAll (record { number = e i .turned .number; place = k; taken = k; answers = e i .turned .given; registers = e i .turned .registers }) (e i .memory) (e i .answers)
-
-answering-proper : (s : Standing Machine) {o : Step Machine} → Answering (s .machine) o → Proper (turnOf s o)
-answering-proper s answers = cond-has Proper (ltb (s .given) (length (s .answers))) goes stops
-answering-proper s declines = stops
-
-acting-proper : (s : Standing Machine) {o : Step Machine} → Acting o → Proper (turnOf s o)
-acting-proper s acts = goes
-acting-proper s refuses = stops
-
-pub step-proper : (p : Panel) (rom : List ℕ) (s : Standing Machine) (k b : ℕ) → Proper (turnOf s (stepOf p rom (s .machine) (record { kind = k; byte = b })))
-step-proper p rom s k b = go (eqb k 2 || eqb k 3) refl
-  where
-    go : (t : Bool) → (eqb k 2 || eqb k 3) ≡ t → Proper (turnOf s (stepOf p rom (s .machine) (record { kind = k; byte = b })))
-    go true e = answering-proper s (step-answering p rom (s .machine) k b e)
-    go false e = acting-proper s (step-acting p rom (s .machine) k b e)
+-- what a run keeps: the machine's property, the answers inside their buffer
+pub record Kept {M : Type 0} (P : M → Type 0) (e : Run M) : Type 0 where
+  pub sound : P (e .standing .machine)
+  pub within : e .standing .given ≤ length (e .standing .answers)
+  pub ends : Ends (e .end)
 
 -- before pair i of a run over the first `total` pairs of a log
-pub record Going (p : Panel) (rom log : List ℕ) (total : ℕ) (s₀ s : Standing Machine) (i : ℕ) : Type 0 where
+pub record Going {M : Type 0} (step : M → Pair → Step M) (P : M → Type 0) (log : List ℕ) (total : ℕ) (s₀ s : Standing M) (i : ℕ) : Type 0 where
   pub inside : i ≤ total
-  pub sound : Sounds (s .machine)
+  pub sound : P (s .machine)
   pub room : length (s .answers) ≡ length (s₀ .answers)
-  pub left : runFrom (stepOf p rom) i (take (total - i) (drop i (pairsOf log))) s ≡ runFrom (stepOf p rom) 0 (take total (pairsOf log)) s₀
+  pub left : runFrom step i (take (total - i) (drop i (pairsOf log))) s ≡ runFrom step 0 (take total (pairsOf log)) s₀
 
-pub going : (p : Panel) (rom log : List ℕ) (total : ℕ) (s₀ : Standing Machine) → Sounds (s₀ .machine) → Going p rom log total s₀ s₀ 0
-going p rom log total s₀ k = record { inside = omega arith; sound = k; room = refl; left = ap (λ (n : ℕ). runFrom (stepOf p rom) 0 (take n (pairsOf log)) s₀) (let e : total - 0 ≡ total = omega arith in e) }
+module _ {M : Type 0} where
+  abbrev Inside : Turn M → Type 0
+  Inside (went t) = t .given ≤ length (t .answers)
+  Inside (halted n) = Unit {0}
 
-module _ {p : Panel} {rom log : List ℕ} {total : ℕ} {s₀ s : Standing Machine} {i : ℕ} (g : Going p rom log total s₀ s i) where
-  -- every turn starts from a machine that may be acted on
-  pub going-runs : (r : Registers) (mem : List ℕ) → s .machine ≡ machine r mem → validPanel p ≡ true → length rom ≡ 1024 → Runs p r mem rom
-  going-runs r mem e v l =
-      let k : Sounds (machine r mem) = subst Sounds e (g .sound) in
-      record { panel = v; state = sounds-valid k; lent = both (eq-eqb (length mem) 65536 (k .memory)) (eq-eqb (length rom) 1024 l) }
+  turn-inside : (s : Standing M) (o : Step M) → s .given ≤ length (s .answers) → Inside (turnOf s o)
+  turn-inside s (done m) h = h
+  turn-inside s (answered m b) h = go (ltb (s .given) (length (s .answers))) refl
+    where
+      go : (t : Bool) → ltb (s .given) (length (s .answers)) ≡ t
+          → Inside (cond t (went (record { machine = m; answers = set (s .answers) (s .given) b; given = s .given + 1 })) (halted 13))
+      go true e = let l : s .given < length (s .answers) = ltb-true (s .given) (length (s .answers)) e in rw length-set (omega arith)
+      go false e = tt
+  turn-inside s (refused n) h = tt
 
-  module _ (h : i < total) (l : 2 * total ≤ length log) where
-    turned : afterTurn (turnOf s (stepOf p rom (s .machine) (pairAt log i)))
-        (λ t. runFrom (stepOf p rom) (suc i) (take (total - (i + 1)) (drop (i + 1) (pairsOf log))) t)
-        (λ n. record { standing = s; taken = i; end = short n })
-        ≡ runFrom (stepOf p rom) 0 (take total (pairsOf log)) s₀
+  turn-keeps : (P : M → Type 0) (s : Standing M) (o : Step M) → Leaves P o → Keeps P s (turnOf s o)
+  turn-keeps P s (done m) k = (k, refl)
+  turn-keeps P s (answered m b) k = go (ltb (s .given) (length (s .answers)))
+    where
+      go : (t : Bool) → Keeps P s (cond t (went (record { machine = m; answers = set (s .answers) (s .given) b; given = s .given + 1 })) (halted 13))
+      go true = (k, length-set (s .answers) (s .given) b)
+      go false = tt
+  turn-keeps P s (refused n) k = tt
+
+  module _ (step : M → Pair → Step M) (P : M → Type 0) (keeps : (m : M) → P m → (q : Pair) → Leaves P (step m q)) where
+    pub run-kept : ((s : Standing M) (q : Pair) → Proper (turnOf s (step (s .machine) q)))
+        → (qs : List Pair) (k : ℕ) (s : Standing M) → P (s .machine) → s .given ≤ length (s .answers) → Kept P (runFrom step k qs s)
     unfolding runFrom
-    turned = sym (ap (λ (qs : List Pair). runFrom (stepOf p rom) i qs s) (pairs-here log total i h l)) ∙ g .left
+    run-kept proper [] k s h l = record { sound = h; within = l; ends = all }
+    run-kept proper (q ∷ qs) k s h l =
+        go (turnOf s (step (s .machine) q)) (proper s q) (turn-keeps P s (step (s .machine) q) (keeps (s .machine) h q))
+        (turn-inside s (step (s .machine) q) l) (λ t a b. run-kept proper qs (suc k) t a b)
+      where
+        go : (o : Turn M) → Proper o → Keeps P s o → Inside o
+            → ((t : Standing M) → P (t .machine) → t .given ≤ length (t .answers) → Kept P (runFrom step (suc k) qs t))
+            → Kept P (afterTurn o (λ t. runFrom step (suc k) qs t) (λ n. record { standing = s; taken = k; end = short n }))
+        go (went t) goes a b f = f t (a .0) b
+        go (halted (suc n)) stops a b f = record { sound = h; within = l; ends = cut }
 
-    -- a pair that is known to be taken
-    went-on : {t : Standing Machine} → turnOf s (stepOf p rom (s .machine) (pairAt log i)) ≡ went t → Going p rom log total s₀ t (i + 1)
-    went-on {t} w =
-        let k = subst (Keeps s) w (turn-keeps s (stepOf p rom (s .machine) (pairAt log i)) (step-sound p rom (s .machine) (g .sound) (pairAt log i))) in
-        record {
-          inside = omega arith;
-          sound = k .0;
-          room = k .1 ∙ g .room;
-          left = ap (λ (n : ℕ). runFrom (stepOf p rom) n (take (total - (i + 1)) (drop (i + 1) (pairsOf log))) t) (add-one i)
-              ∙ sym
-              (ap
-              (λ (o : Turn Machine). afterTurn o
-              (λ t. runFrom (stepOf p rom) (suc i) (take (total - (i + 1)) (drop (i + 1) (pairsOf log))) t)
-              (λ n. record { standing = s; taken = i; end = short n })) w)
-              ∙ turned;
-        }
+    pub going : (log : List ℕ) (total : ℕ) (s₀ : Standing M) → P (s₀ .machine) → Going step P log total s₀ s₀ 0
+    going log total s₀ k =
+        record { inside = omega arith; sound = k; room = refl; left = ap (λ (n : ℕ). runFrom step 0 (take n (pairsOf log)) s₀) (let e : total - 0 ≡ total = omega arith in e) }
 
-    -- done, the pair being of a known kind
-    pub going-done : (n : ℕ) → getD log (2 * i) 0 ≡ n → {m : Machine}
-        → stepOf p rom (s .machine) (record { kind = n; byte = getD log (2 * i + 1) 0 }) ≡ done m
-        → Going p rom log total s₀ (record { machine = m; answers = s .answers; given = s .given }) (i + 1)
-    going-done n e h =
-        went-on (ap (λ (k : ℕ). turnOf s (stepOf p rom (s .machine) (record { kind = k; byte = getD log (2 * i + 1) 0 }))) e ∙ ap (turnOf s) h)
+    module _ {log : List ℕ} {total : ℕ} {s₀ s : Standing M} {i : ℕ} (g : Going step P log total s₀ s i) where
+      -- the stated number reached
+      pub going-ends : total ≤ i → ended s i ≡ runFrom step 0 (take total (pairsOf log)) s₀
+      unfolding runFrom
+      going-ends h =
+          let e : total - i ≡ 0 = omega arith in
+          sym (ap (λ (n : ℕ). runFrom step i (take n (drop i (pairsOf log))) s) e) ∙ g .left
 
-    -- answered, and there is room
-    pub going-answers : (n : ℕ) → getD log (2 * i) 0 ≡ n → {m : Machine} {b : ℕ}
-        → stepOf p rom (s .machine) (record { kind = n; byte = getD log (2 * i + 1) 0 }) ≡ answered m b → ltb (s .given) (length (s .answers)) ≡ true
-        → Going p rom log total s₀ (record { machine = m; answers = set (s .answers) (s .given) b; given = s .given + 1 }) (i + 1)
-    going-answers n e {m} {b} h r =
-        went-on
-        (ap (λ (k : ℕ). turnOf s (stepOf p rom (s .machine) (record { kind = k; byte = getD log (2 * i + 1) 0 }))) e ∙ ap (turnOf s) h
-        ∙ ap (λ (t : Bool). cond t (went (record { machine = m; answers = set (s .answers) (s .given) b; given = s .given + 1 })) (halted 13)) r)
+      module _ (h : i < total) (l : 2 * total ≤ length log) where
+        abbrev afterHere : Turn M → Run M
+        afterHere o =
+            afterTurn o (λ t. runFrom step (suc i) (take (total - (i + 1)) (drop (i + 1) (pairsOf log))) t) (λ n. record { standing = s; taken = i; end = short n })
 
-    module _ {t : Turned} {m a : List ℕ}
-        (e : turnedAll t m a ≡ turnedOf s (turnOf s (stepOf p rom (s .machine) (pairAt log i)))) where
-      -- a pair taken
-      pub going-on : t .number ≡ 0 → Going p rom log total s₀ (standing (t .registers) m a (t .given)) (i + 1)
-      going-on z =
-          let w = turn-taken s (turnOf s (stepOf p rom (s .machine) (pairAt log i))) (step-proper p rom s (getD log (2 * i) 0) (getD log (2 * i + 1) 0)) e z in
-          went-on w
+        turned : afterHere (turnOf s (step (s .machine) (pairAt log i))) ≡ runFrom step 0 (take total (pairsOf log)) s₀
+        unfolding runFrom
+        turned = sym (ap (λ (qs : List Pair). runFrom step i qs s) (pairs-here log total i h l)) ∙ g .left
 
-      -- a pair refused
-      pub going-stops : (t .number ≡ 0 → ⊥)
-          → ranAll (record { number = t .number; place = i; taken = i; answers = t .given; registers = t .registers }) m a
-          ≡ ranOf (runFrom (stepOf p rom) 0 (take total (pairsOf log)) s₀)
-      going-stops z =
-          turn-stopped s (turnOf s (stepOf p rom (s .machine) (pairAt log i))) e z i
-          (λ t. runFrom (stepOf p rom) (suc i) (take (total - (i + 1)) (drop (i + 1) (pairsOf log))) t)
-          ∙ ap ranOf turned
+        -- a pair that is not taken
+        pub going-halts : {n : ℕ} → turnOf s (step (s .machine) (pairAt log i)) ≡ halted n
+            → record { standing = s; taken = i; end = short n } ≡ runFrom step 0 (take total (pairsOf log)) s₀
+        going-halts w = sym (ap afterHere w) ∙ turned
 
-  -- a block of data in auto write
-  pub going-block : {b : Bool} → b ≡ isWrite (s .machine .registers .bus .auto) → (eqb (getD log (2 * i) 0) 0 && b) ≡ true
-      → {m : List ℕ} {end : ℕ} {next : Bus}
-      → Blocked (s .machine .memory) (s .machine .registers .bus .pointer) log i total m end
-      → next ≡ withPointer (s .machine .registers .bus) ((s .machine .registers .bus .pointer + (end - i)) % 65536)
-      → Going p rom log total s₀ (standing (withBus (s .machine .registers) next) m (s .answers) (s .given)) end
-  going-block {b} e w {m} {end} k f =
-      let j : (s .machine .registers .bus .pointer + (end - i)) % 65536 ≡ (s .machine .registers .bus .pointer + length (dataOf (pairsFrom log i total))) % 65536 = omega (arith, k .reaches) in
-      subst (λ (x : Bus). Going p rom log total s₀ (standing (withBus (s .machine .registers) x) m (s .answers) (s .given)) end) (sym f)
-      (record {
-        inside = k .inside;
-        sound = record { display = g .sound .display; bus = g .sound .bus; memory = ap length (k .holds) ∙ stored-length (s .machine .memory) _ _ ∙ g .sound .memory };
-        room = g .room;
-        left = (λ t. runFrom (stepOf p rom) (k .reaches t) (pairsFrom log (k .reaches t) total) (standing (withBus (s .machine .registers) (withPointer (s .machine .registers .bus) (j t))) (k .holds t) (s .answers) (s .given)))
-            ∙ sym
-            (ap
-            (λ (qs : List Pair). runFrom (stepOf p rom) (i + length (dataOf (pairsFrom log i total))) qs
-            (standing (withBus (s .machine .registers) (withPointer (s .machine .registers .bus) ((s .machine .registers .bus .pointer + length (dataOf (pairsFrom log i total))) % 65536))) (stored (s .machine .memory) (s .machine .registers .bus .pointer) (dataOf (pairsFrom log i total))) (s .answers) (s .given)))
-            (pairs-behind log total i (length (dataOf (pairsFrom log i total)))))
-            ∙ sym (block-run p rom (pairsFrom log i total) i (s .machine .registers) (s .machine .memory) (s .answers) (s .given) (write-only (s .machine .registers .bus .auto) (sym e ∙ both-right (eqb (getD log (2 * i) 0) 0) b w)) (k .low))
-            ∙ g .left;
-      })
+        -- a pair that is taken
+        pub going-went : {t : Standing M} → turnOf s (step (s .machine) (pairAt log i)) ≡ went t → Going step P log total s₀ t (i + 1)
+        going-went {t} w =
+            let k = subst (Keeps P s) w (turn-keeps P s (step (s .machine) (pairAt log i)) (keeps (s .machine) (g .sound) (pairAt log i))) in
+            record {
+              inside = omega arith;
+              sound = k .0;
+              room = k .1 ∙ g .room;
+              left = ap (λ (n : ℕ). runFrom step n (take (total - (i + 1)) (drop (i + 1) (pairsOf log))) t) (add-one i) ∙ sym (ap afterHere w) ∙ turned;
+            }
 
-  -- the stated number reached
-  pub going-ends : total ≤ i
-      → ranAll (record { number = 0; place = 0; taken = i; answers = s .given; registers = s .machine .registers }) (s .machine .memory) (s .answers)
-      ≡ ranOf (runFrom (stepOf p rom) 0 (take total (pairsOf log)) s₀)
-  unfolding runFrom
-  going-ends h =
-      let e : total - i ≡ 0 = omega arith in
-      sym (ap (λ (n : ℕ). ranOf (runFrom (stepOf p rom) i (take n (drop i (pairsOf log))) s)) e) ∙ ap ranOf (g .left)
+        -- done, the pair being of a known kind
+        pub going-done : (n : ℕ) → getD log (2 * i) 0 ≡ n → {m : M} → step (s .machine) (record { kind = n; byte = getD log (2 * i + 1) 0 }) ≡ done m
+            → Going step P log total s₀ (record { machine = m; answers = s .answers; given = s .given }) (i + 1)
+        going-done n e h =
+            going-went (ap (λ (k : ℕ). turnOf s (step (s .machine) (record { kind = k; byte = getD log (2 * i + 1) 0 }))) e ∙ ap (turnOf s) h)
 
-off-only : (a : Auto) → isOff a ≡ true → a ≡ Off
-off-only Off e = refl
-off-only Write e = absurd (false≢true e)
-off-only Read e = absurd (false≢true e)
-
-read-only : (a : Auto) → isRead a ≡ true → a ≡ Read
-read-only Off e = absurd (false≢true e)
-read-only Write e = absurd (false≢true e)
-read-only Read e = refl
-
--- the pairs that are taken apart from the others
-module _ {p : Panel} {rom log : List ℕ} {total : ℕ} {s₀ : Standing Machine} {d : Display} {b : Bus} {m a : List ℕ} {n i : ℕ}
-    (g : Going p rom log total s₀ (standing (record { display = d; bus = b }) m a n) i) where
-  pub going-kept : {after : List ℕ} → after ≡ m → Going p rom log total s₀ (standing (record { display = d; bus = b }) after a n) i
-  going-kept e = subst (λ (x : List ℕ). Going p rom log total s₀ (standing (record { display = d; bus = b }) x a n) i) (sym e) g
-
-  -- room for an answer, as the loop's tests have it
-  pub room-left : (k : ℕ) → (eqb (getD log (2 * i) 0) k && ltb n (length a)) ≡ true → n < length a
-  room-left k t = ltb-true n (length a) (both-right (eqb (getD log (2 * i) 0) k) (ltb n (length a)) t)
-
-  pub room-still : (k : ℕ) (r : Bool) → ((eqb (getD log (2 * i) 0) k && ltb n (length a)) && r) ≡ true → n < length a
-  room-still k r t = room-left k (both-left (eqb (getD log (2 * i) 0) k && ltb n (length a)) r t)
-
-  module _ (h : i < total) (l : 2 * total ≤ length log) where
-    pub going-states : (eqb (getD log (2 * i) 0) 3 && ltb n (length a)) ≡ true → {v : ℕ} → v ≡ busStatus b (d .phase)
-        → Going p rom log total s₀ (standing (record { display = d; bus = b }) m (set a n v) (n + 1)) (i + 1)
-    going-states t f =
-        going-answers g h l 3 (eqb-true (getD log (2 * i) 0) 3 (both-left (eqb (getD log (2 * i) 0) 3) (ltb n (length a)) t))
-        (ap (answered (machine (record { display = d; bus = b }) m)) (sym f)) (both-right (eqb (getD log (2 * i) 0) 3) (ltb n (length a)) t)
-
-    pub going-ticks : getD log (2 * i) 0 ≡ 4 → Going p rom log total s₀ (standing (record { display = withPhase d (not (d .phase)); bus = b }) m a n) (i + 1)
-    going-ticks e = going-done g h l 4 e refl
-
-    pub going-leaves : (eqb (getD log (2 * i) 0) 1 && eqb (getD log (2 * i + 1) 0) 0xb2) ≡ true → {next : Bus} → next ≡ withAuto b Off
-        → Going p rom log total s₀ (standing (record { display = d; bus = withPending next none }) m a n) (i + 1)
-    going-leaves t f =
-        going-done g h l 1 (eqb-true (getD log (2 * i) 0) 1 (both-left (eqb (getD log (2 * i) 0) 1) (eqb (getD log (2 * i + 1) 0) 0xb2) t))
-        (leaves p rom m d b (getD log (2 * i + 1) 0)
-        (eqb-true (getD log (2 * i + 1) 0) 0xb2 (both-right (eqb (getD log (2 * i) 0) 1) (eqb (getD log (2 * i + 1) 0) 0xb2) t)) f)
-
-    pub going-fetches : {read : Bool} → read ≡ isRead (b .auto) → ((eqb (getD log (2 * i) 0) 2 && ltb n (length a)) && read) ≡ true → {next : Bus}
-        → next ≡ withPointer (withLatch b (getD m (b .pointer) 0)) (movedOf Up (b .pointer))
-        → Going p rom log total s₀ (standing (record { display = d; bus = withPointer b (next .pointer) }) m (set a n (next .latch)) (n + 1)) (i + 1)
-    going-fetches {read} e t f =
-        let u = both-left (eqb (getD log (2 * i) 0) 2 && ltb n (length a)) read t in
-        going-answers g h l 2 (eqb-true (getD log (2 * i) 0) 2 (both-left (eqb (getD log (2 * i) 0) 2) (ltb n (length a)) u))
-        (ap (λ (x : Auto). dataReadOf x (machine (record { display = d; bus = b }) m)) (read-only (b .auto) (sym e ∙ both-right (eqb (getD log (2 * i) 0) 2 && ltb n (length a)) read t))
-        ∙ (λ t. answered (machine (record { display = d; bus = withPointer b (sym f t .pointer) }) m) (sym f t .latch)))
-        (both-right (eqb (getD log (2 * i) 0) 2) (ltb n (length a)) u)
-
-    module _ {off : Bool} (e : off ≡ isOff (b .auto)) where
-      pub going-pushes : (eqb (getD log (2 * i) 0) 0 && off) ≡ true → {q : Pending} → q ≡ pushed (b .pending) (getD log (2 * i + 1) 0)
-          → Going p rom log total s₀ (standing (record { display = d; bus = withPending b q }) m a n) (i + 1)
-      going-pushes t f =
-          going-done g h l 0 (eqb-true (getD log (2 * i) 0) 0 (both-left (eqb (getD log (2 * i) 0) 0) off t))
-          (ap (λ (x : Auto). dataWriteOf x (machine (record { display = d; bus = b }) m) (getD log (2 * i + 1) 0)) (off-only (b .auto) (sym e ∙ both-right (eqb (getD log (2 * i) 0) 0) off t))
-          ∙ (λ t. done (machine (record { display = d; bus = withPending b (sym f t) }) m)))
-
-      pub going-reads : ((eqb (getD log (2 * i) 0) 2 && ltb n (length a)) && off) ≡ true
-          → Going p rom log total s₀ (standing (record { display = d; bus = b }) m (set a n (b .latch)) (n + 1)) (i + 1)
-      going-reads t =
-          let u = both-left (eqb (getD log (2 * i) 0) 2 && ltb n (length a)) off t in
-          going-answers g h l 2 (eqb-true (getD log (2 * i) 0) 2 (both-left (eqb (getD log (2 * i) 0) 2) (ltb n (length a)) u))
-          (ap (λ (x : Auto). dataReadOf x (machine (record { display = d; bus = b }) m)) (off-only (b .auto) (sym e ∙ both-right (eqb (getD log (2 * i) 0) 2 && ltb n (length a)) off t)))
-          (both-right (eqb (getD log (2 * i) 0) 2) (ltb n (length a)) u)
-
-      pub going-tells : {told : Told} {after : List ℕ} → Tells b m (eqb (getD log (2 * i) 0) 1 && off) (getD log (2 * i + 1) 0) told after → told .done ≡ true
-          → Going p rom log total s₀ (standing (record { display = d; bus = told .bus }) after a n) (i + 1)
-      going-tells k t =
-          going-done g h l 1 (eqb-true (getD log (2 * i) 0) 1 (both-left (eqb (getD log (2 * i) 0) 1) off (k .quiet t)))
-          (k .acts t (sym e ∙ both-right (eqb (getD log (2 * i) 0) 1) off (k .quiet t)) p rom d)
-
-      pub going-draws : {drawn : Drawn} → Draws d (eqb (getD log (2 * i) 0) 1 && off) (getD log (2 * i + 1) 0) drawn → drawn .done ≡ true
-          → Going p rom log total s₀ (standing (record { display = drawn .display; bus = withPending b none }) m a n) (i + 1)
-      going-draws k t =
-          going-done g h l 1 (eqb-true (getD log (2 * i) 0) 1 (both-left (eqb (getD log (2 * i) 0) 1) off (k .quiet t)))
-          (k .acts t b (sym e ∙ both-right (eqb (getD log (2 * i) 0) 1) off (k .quiet t)) p rom m)
+        -- answered, and there is room
+        pub going-answers : (n : ℕ) → getD log (2 * i) 0 ≡ n → {m : M} {b : ℕ} → step (s .machine) (record { kind = n; byte = getD log (2 * i + 1) 0 }) ≡ answered m b
+            → ltb (s .given) (length (s .answers)) ≡ true
+            → Going step P log total s₀ (record { machine = m; answers = set (s .answers) (s .given) b; given = s .given + 1 }) (i + 1)
+        going-answers n e {m} {b} h r =
+            going-went
+            (ap (λ (k : ℕ). turnOf s (step (s .machine) (record { kind = k; byte = getD log (2 * i + 1) 0 }))) e ∙ ap (turnOf s) h
+            ∙ ap (λ (t : Bool). cond t (went (record { machine = m; answers = set (s .answers) (s .given) b; given = s .given + 1 })) (halted 13)) r)

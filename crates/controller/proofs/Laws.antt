@@ -1,11 +1,11 @@
 -- What callers may use of a step: which registers and which memory it changes, and that a sound machine stays sound.
-use mathlib.Core.Path.{_≡_, refl, ap, sym, subst, _∙_}
-use mathlib.Core.Bool.{Bool, true, false, cond, not, _||_, false≢true}
+use mathlib.Core.Path.{_≡_, refl, sym, subst, _∙_}
+use mathlib.Core.Bool.{Bool, true, false, cond, _||_, false≢true}
 use mathlib.Core.List.{List}
-use Prim.Native.Nat.{ℕ, _+_, _-_, _%_, _<_, _≤_}
+use Prim.Native.Nat.{ℕ, _+_, _-_, _<_, _≤_}
 use native.Mathlib.Omega.{arith}
 use lib.Dec.{ltb, leb, eqb}
-use lib.ListN.{length, set, length-set}
+use lib.ListN.{length, length-set}
 use borrow.Author.Tests.{ltb-true}
 use Rattle.ground.proofs.Stores.{stored-length}
 use Rattle.ground.proofs.Tests.{cond-has, both, both-left, both-right}
@@ -15,10 +15,11 @@ use Rattle.codes.proofs.Heights.{Sound, height, decode-sound}
 use Rattle.state.specs.State.{validDisplay, validBus, validRegisters, none}
 use Rattle.state.specs.Combination.{isAttribute}
 use Rattle.state.proofs.Valid.{Displaying, displaying, display-valid, Bussing, bussing, bus-valid}
-use Rattle.controller.specs.Types.{Panel, Display, Bus, Pending, Registers, Auto, Off, Write, Read, Target, Command, Set, Mode, DisplayMode, Height, Run, Store, Load, Peek, Copy, Bit, Decoded, Defined, Undefined, Position, At, Nowhere}
+use Rattle.controller.specs.Types.{Panel, Display, Pending, Registers, Auto, Off, Write, Read, Target, Command, Set, Mode, DisplayMode, Height, Run, Store, Load, Peek, Copy, Bit, Decoded, Defined, Undefined, Position, At, Nowhere}
 use Rattle.effects.specs.Effect.{pushed, setOf, statusOf}
 use Rattle.sight.specs.Position.{positionOf}
-use Rattle.controller.specs.Access.{Pair, Step, done, answered, refused, effectOf, dropped, obeyOf, commandOf, dataWriteOf, dataReadOf, tickOf, stepOf}
+use Rattle.controller.proofs.Goings.{Leaves}
+use Rattle.controller.specs.Access.{Pair, done, answered, refused, effectOf, dropped, obeyOf, commandOf, dataWriteOf, dataReadOf, tickOf, stepOf}
 use Rattle.effects.specs.Machine.{Machine, machine}
 use Rattle.sight.specs.Sight.{copiedOf, copyOf}
 
@@ -106,12 +107,6 @@ sounds r mem e l =
 
 pub sounds-valid : {s : Machine} → Sounds s → validRegisters (s .registers) ≡ true
 sounds-valid {s} k = both (display-valid (s .registers .display) (k .display)) (bus-valid (s .registers .bus) (k .bus))
-
--- what a step leaves has a property, if it leaves anything
-abbrev pub Leaves : (Machine → Type 0) → Step Machine → Type 0
-Leaves P (done s) = P s
-Leaves P (answered s b) = P s
-Leaves P (refused n) = Unit {0}
 
 none-bussing : Bussing none
 none-bussing = record { count = omega arith; older = λ l. refl; newest = λ l. refl }

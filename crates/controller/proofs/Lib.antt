@@ -3,6 +3,7 @@ pub mod Blocks
 pub mod Goings
 pub mod Laws
 pub mod Logs
+pub mod Pairwise
 pub mod Readied
 pub mod Runs
 pub mod Splits

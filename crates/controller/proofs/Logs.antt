@@ -1,6 +1,6 @@
 -- The laws of logs and their pairs, and the run over the log of pairs that are all taken.
 use mathlib.Core.Path.{_≡_, refl, ap, subst, _∙_}
-use mathlib.Core.Bool.{Bool, true, cond, _&&_}
+use mathlib.Core.Bool.{true, cond, _&&_}
 use mathlib.Core.List.{List, [], _∷_, _++_}
 use Prim.Native.Nat.{ℕ, _+_, _*_, _/_, _%_, _≤_}
 use native.Mathlib.Omega.{arith}
@@ -13,10 +13,11 @@ use Rattle.display.specs.Frame.{lentLengths}
 use Rattle.controller.specs.Types.{Panel, Registers}
 use Rattle.controller.specs.Access.{Pair, stepOf}
 use Rattle.effects.specs.Machine.{Machine, machine}
-use Rattle.controller.specs.Run.{pairsOf, logOf, Run, runFrom, RanAll, ranAll, ranOf, ranNone, runOf}
+use Rattle.controller.specs.Run.{pairsOf, logOf, runFrom, ranAll, ranOf, ranNone, runOf}
 use Rattle.controller.specs.Ready.{standing}
-use Rattle.controller.proofs.Laws.{sounds, sounds-valid}
-use Rattle.controller.proofs.Splitting.{Kept, run-kept}
+use Rattle.controller.proofs.Laws.{Sounds, sounds, sounds-valid}
+use Rattle.controller.proofs.Goings.{Kept}
+use Rattle.controller.proofs.Splitting.{running-kept}
 use Rattle.controller.proofs.Takes.{Takes}
 
 pub log-append : (ps qs : List Pair) → logOf (ps ++ qs) ≡ logOf ps ++ logOf qs
@@ -56,4 +57,4 @@ run-takes p r mem rom qs limit answers {t} v w l few x =
 pub takes-valid : (p : Panel) (r : Registers) (mem rom : List ℕ) {qs : List Pair} {t : Machine} → validRegisters r ≡ true → length mem ≡ 65536
     → Takes (stepOf p rom) qs (machine r mem) t → validRegisters (t .registers) ≡ true
 takes-valid p r mem rom {qs} {t} v l x =
-    sounds-valid (subst Kept (x .run 0 [] 0) (run-kept p rom qs 0 (standing r mem [] 0) (sounds r mem v l) (omega arith)) .sound)
+    sounds-valid (subst (Kept Sounds) (x .run 0 [] 0) (running-kept p rom qs 0 (standing r mem [] 0) (sounds r mem v l) (omega arith)) .sound)

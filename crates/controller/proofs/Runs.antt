@@ -2,7 +2,7 @@
 use mathlib.Core.Path.{_≡_, refl, ap, sym, _∙_}
 use mathlib.Core.Bool.{Bool, true, false, cond, _&&_}
 use mathlib.Core.List.{List, [], _∷_}
-use Prim.Native.Nat.{ℕ, zero, suc, _+_, _*_, _/_, _%_, _≤_, min}
+use Prim.Native.Nat.{ℕ, _/_, _%_, _≤_, min}
 use native.Mathlib.Omega.{arith}
 use lib.Dec.{eqb}
 use lib.ListN.{length, take}
@@ -13,9 +13,8 @@ use Rattle.ground.proofs.Tests.{settled}
 use Rattle.state.specs.State.{validPanel, validRegisters}
 use Rattle.display.specs.Frame.{lentLengths}
 use Rattle.controller.specs.Types.{Panel, Registers, Ran}
-use Rattle.effects.specs.Machine.{Machine}
 use Rattle.controller.specs.Access.{stepOf}
-use Rattle.controller.specs.Run.{pairsOf, Standing, Run, runFrom, RanAll, ranAll, ranOf, ranNone, runOf}
+use Rattle.controller.specs.Run.{pairsOf, runFrom, RanAll, ranAll, ranOf, ranNone, runOf}
 use Rattle.controller.specs.Ready.{standing}
 
 pub pairs-length : (log : List ℕ) → length (pairsOf log) ≡ length log / 2

@@ -2,16 +2,16 @@
 use mathlib.Core.Path.{_≡_, refl, ap, sym, _∙_}
 use mathlib.Core.Bool.{Bool, true, false, cond}
 use mathlib.Core.List.{List, [], _∷_, _++_}
-use Prim.Native.Nat.{ℕ, zero, suc, _+_, _<_, _≤_}
+use Prim.Native.Nat.{ℕ, suc, _+_, _<_}
 use native.Mathlib.Nat.{add-suc}
 use native.Mathlib.Omega.{arith}
 use native.Mathlib.Decide.{decLt}
 use lib.Dec.{ltb}
-use lib.ListN.{length, set, length-append, length-set}
+use lib.ListN.{length, set, length-append}
 use borrow.Author.Tests.{lt-ltb, le-ltb}
 use Rattle.ground.proofs.Stores.{set-behind}
 use Rattle.controller.specs.Access.{Pair, Step, done, answered, refused}
-use Rattle.controller.specs.Run.{Standing, Turn, went, halted, turnOf, End, whole, short, Run, afterTurn, runFrom}
+use Rattle.controller.specs.Run.{Standing, Turn, went, halted, turnOf, whole, short, Run, afterTurn, runFrom}
 
 -- taken to the end, and what stands then
 abbrev pub ended : {M : Type 0} → Standing M → ℕ → Run M
@@ -98,3 +98,46 @@ module _ {M : Type 0} (step : M → Pair → Step M) where
           ≡ behindRun front (afterTurn o (λ x. runFrom step (suc k) qs x) (λ n. record { standing = s; taken = k; end = short n }))
       go (went x) h = h x
       go (halted n) h = refl
+
+-- a step over a larger machine that projects to a step makes a run that projects to the run
+abbrev pub projectedStep : {M N : Type 0} → (M → N) → Step M → Step N
+projectedStep f (done m) = done (f m)
+projectedStep f (answered m b) = answered (f m) b
+projectedStep f (refused n) = refused n
+
+abbrev pub projected : {M N : Type 0} → (M → N) → Standing M → Standing N
+projected f s = record { machine = f (s .machine); answers = s .answers; given = s .given }
+
+abbrev pub projectedRun : {M N : Type 0} → (M → N) → Run M → Run N
+projectedRun f e = record { standing = projected f (e .standing); taken = e .taken; end = e .end }
+
+abbrev projectedTurn : {M N : Type 0} → (M → N) → Turn M → Turn N
+projectedTurn f (went t) = went (projected f t)
+projectedTurn f (halted n) = halted n
+
+module _ {M N : Type 0} (f : M → N) where
+  turn-projects : (s : Standing M) (o : Step M) → turnOf (projected f s) (projectedStep f o) ≡ projectedTurn f (turnOf s o)
+  turn-projects s (done m) = refl
+  turn-projects s (answered m b) = go (ltb (s .given) (length (s .answers)))
+    where
+      go : (t : Bool)
+          → cond t (went (record { machine = f m; answers = set (s .answers) (s .given) b; given = s .given + 1 })) (halted 13)
+          ≡ projectedTurn f (cond t (went (record { machine = m; answers = set (s .answers) (s .given) b; given = s .given + 1 })) (halted 13))
+      go true = refl
+      go false = refl
+  turn-projects s (refused n) = refl
+
+  module _ (big : M → Pair → Step M) (small : N → Pair → Step N) (same : (m : M) (q : Pair) → small (f m) q ≡ projectedStep f (big m q)) where
+    pub run-projects : (k : ℕ) (qs : List Pair) (s : Standing M) → runFrom small k qs (projected f s) ≡ projectedRun f (runFrom big k qs s)
+    unfolding runFrom
+    run-projects k [] s = refl
+    run-projects k (q ∷ qs) s =
+        ap (λ (o : Turn N). afterTurn o (λ x. runFrom small (suc k) qs x) (λ n. record { standing = projected f s; taken = k; end = short n }))
+        (ap (turnOf (projected f s)) (same (s .machine) q) ∙ turn-projects s (big (s .machine) q))
+        ∙ go (turnOf s (big (s .machine) q)) (λ x. run-projects (suc k) qs x)
+      where
+        go : (o : Turn M) → ((x : Standing M) → runFrom small (suc k) qs (projected f x) ≡ projectedRun f (runFrom big (suc k) qs x))
+            → afterTurn (projectedTurn f o) (λ x. runFrom small (suc k) qs x) (λ n. record { standing = projected f s; taken = k; end = short n })
+            ≡ projectedRun f (afterTurn o (λ x. runFrom big (suc k) qs x) (λ n. record { standing = s; taken = k; end = short n }))
+        go (went x) h = h x
+        go (halted n) h = refl

@@ -1,65 +1,31 @@
 -- Two runs, the second over the rest of log and answer buffer where the first stopped by number, equal one run with both numbers added.
-use mathlib.Core.Path.{_≡_, refl, ap, sym, subst, _∙_}
+use mathlib.Core.Path.{_≡_, refl, ap, sym, _∙_}
 use mathlib.Core.Bool.{Bool, true, false, cond, _&&_}
 use mathlib.Core.List.{List, [], _∷_, _++_}
-use Prim.Native.Nat.{ℕ, zero, suc, _+_, _-_, _*_, _/_, _%_, _<_, _≤_, min}
+use Prim.Native.Nat.{ℕ, zero, suc, _+_, _-_, _*_, _/_, _%_, _≤_}
 use native.Mathlib.Omega.{arith}
-use lib.Dec.{ltb, eqb, eqb·suc-zero}
-use lib.ListN.{length, take, drop, set, length-set, length-take, length-drop, take-append-drop}
+use lib.Dec.{eqb, eqb·suc-zero}
+use lib.ListN.{length, take, drop, length-take, length-drop, take-append-drop}
 use lib.Seq.{take-add, drop-nil}
-use borrow.Author.Tests.{eqb-true, eq-eqb, ltb-true}
+use borrow.Author.Tests.{eqb-true, eq-eqb}
 use Rattle.ground.proofs.Tests.{both, both-left, both-right}
 use Rattle.state.specs.State.{validPanel, validRegisters}
 use Rattle.display.specs.Frame.{lentLengths}
 use Rattle.controller.specs.Types.{Panel, Registers}
-use Rattle.controller.specs.Access.{Pair, Step, done, answered, refused, stepOf}
+use Rattle.controller.specs.Access.{Pair, stepOf}
 use Rattle.effects.specs.Machine.{Machine, machine}
-use Rattle.controller.specs.Run.{pairsOf, Standing, Turn, went, halted, turnOf, End, whole, short, Run, afterTurn, runFrom, endNumber, endPlace, RanAll, ranAll, ranOf, ranNone, runOf}
+use Rattle.controller.specs.Run.{pairsOf, Standing, End, whole, short, Run, runFrom, endNumber, RanAll, ranAll, ranOf, ranNone, runOf}
 use Rattle.controller.specs.Ready.{standing}
 use Rattle.controller.specs.Split.{continued, secondRun, Split}
 use Rattle.controller.proofs.Laws.{Sounds, sounds, sounds-valid, step-sound}
-use Rattle.controller.proofs.Goings.{Keeps, turn-keeps, Proper, goes, stops, step-proper}
-use Rattle.controller.proofs.Runs.{pairs-length}
-use Rattle.controller.proofs.Splits.{ended, run-append, run-taken, shifted, run-shift, behind, behindRun, run-behind}
+use Rattle.controller.proofs.Goings.{Ends, all, cut, Kept, run-kept}
+use Rattle.controller.proofs.Pairwise.{step-proper}
+use Rattle.controller.proofs.Splits.{ended, run-append, shifted, run-shift, behind, behindRun, run-behind}
 
--- an end, or a refusal by a number
-pub data Ends : End → Type 0 where
-  all : Ends whole
-  cut : {n : ℕ} → Ends (short (suc n))
-
--- what a run keeps: the machine sound, the answers inside their buffer
-pub record Kept (e : Run Machine) : Type 0 where
-  pub sound : Sounds (e .standing .machine)
-  pub within : e .standing .given ≤ length (e .standing .answers)
-  pub ends : Ends (e .end)
-
-abbrev Inside : Turn Machine → Type 0
-Inside (went t) = t .given ≤ length (t .answers)
-Inside (halted n) = Unit {0}
-
-turn-inside : (s : Standing Machine) (o : Step Machine) → s .given ≤ length (s .answers) → Inside (turnOf s o)
-turn-inside s (done m) h = h
-turn-inside s (answered m b) h = go (ltb (s .given) (length (s .answers))) refl
-  where
-    go : (t : Bool) → ltb (s .given) (length (s .answers)) ≡ t
-        → Inside (cond t (went (record { machine = m; answers = set (s .answers) (s .given) b; given = s .given + 1 })) (halted 13))
-    go true e = let l : s .given < length (s .answers) = ltb-true (s .given) (length (s .answers)) e in rw length-set (omega arith)
-    go false e = tt
-turn-inside s (refused n) h = tt
-
-pub run-kept : (p : Panel) (rom : List ℕ) (qs : List Pair) (k : ℕ) (s : Standing Machine) → Sounds (s .machine) → s .given ≤ length (s .answers)
-    → Kept (runFrom (stepOf p rom) k qs s)
-unfolding runFrom
-run-kept p rom [] k s h l = record { sound = h; within = l; ends = all }
-run-kept p rom (q ∷ qs) k s h l =
-    go (turnOf s (stepOf p rom (s .machine) q)) (step-proper p rom s (q .kind) (q .byte)) (turn-keeps s (stepOf p rom (s .machine) q) (step-sound p rom (s .machine) h q))
-    (turn-inside s (stepOf p rom (s .machine) q) l) (λ t a b. run-kept p rom qs (suc k) t a b)
-  where
-    go : (o : Turn Machine) → Proper o → Keeps s o → Inside o
-        → ((t : Standing Machine) → Sounds (t .machine) → t .given ≤ length (t .answers) → Kept (runFrom (stepOf p rom) (suc k) qs t))
-        → Kept (afterTurn o (λ t. runFrom (stepOf p rom) (suc k) qs t) (λ n. record { standing = s; taken = k; end = short n }))
-    go (went t) goes a b f = f t (a .0) b
-    go (halted (suc n)) stops a b f = record { sound = h; within = l; ends = cut }
+-- the controller's run keeps its machine sound
+pub running-kept : (p : Panel) (rom : List ℕ) (qs : List Pair) (k : ℕ) (s : Standing Machine) → Sounds (s .machine) → s .given ≤ length (s .answers)
+    → Kept Sounds (runFrom (stepOf p rom) k qs s)
+running-kept p rom = run-kept (stepOf p rom) Sounds (step-sound p rom) (step-proper p rom)
 
 -- the rest of a log
 pub pairs-drop : (n : ℕ) (log : List ℕ) → drop n (pairsOf log) ≡ pairsOf (drop (2 * n) log)
@@ -130,8 +96,8 @@ module _ (p : Panel) (r : Registers) (mem rom log answers : List ℕ) (n m : ℕ
   long : length mem ≡ 65536
   long = eqb-true (length mem) 65536 (both-left _ (eqb (length rom) 1024) l)
 
-  kept : Kept firstRun
-  kept = run-kept p rom (take n (pairsOf log)) 0 (standing r mem answers 0) (sounds r mem (both-right (validPanel p) _ v) long) (omega arith)
+  kept : Kept Sounds firstRun
+  kept = running-kept p rom (take n (pairsOf log)) 0 (standing r mem answers 0) (sounds r mem (both-right (validPanel p) _ v) long) (omega arith)
 
   -- the first run's standing is what is left, behind the answers it gave
   stands : firstRun .standing ≡ behind (take (firstRun .standing .given) (firstRun .standing .answers)) left
@@ -164,7 +130,7 @@ module _ (p : Panel) (r : Registers) (mem rom log answers : List ℕ) (n m : ℕ
       ∙ (λ i. ranOf (runFrom (stepOf p rom) ((let f : firstRun .taken ≡ n + 0 = omega arith in f) i) rest (stands i)))
       ∙ ap ranOf (run-shift (stepOf p rom) n 0 rest (behind front left))
       ∙ ap (λ (x : Run Machine). ranOf (shifted n x)) (run-behind (stepOf p rom) front 0 rest left)
-      ∙ went-on n front (runFrom (stepOf p rom) 0 rest left) (run-kept p rom rest 0 left (kept .sound) (omega arith) .ends)
+      ∙ went-on n front (runFrom (stepOf p rom) 0 rest left) (running-kept p rom rest 0 left (kept .sound) (omega arith) .ends)
       ∙ (λ i. continued n front (g i) (ranOf (runFrom (stepOf p rom) 0 (take m (pairs-drop n log i)) left)))
 
 -- the second run behind the first

@@ -1,9 +1,8 @@
 -- What callers may use of a run: pairs that are all taken, one stretch after another, and what the commonest of them do to a machine at rest.
-use mathlib.Core.Path.{_≡_, refl, ap, sym, _∙_}
-use mathlib.Core.Bool.{Bool, true, false, cond}
+use mathlib.Core.Path.{_≡_, refl, ap, _∙_}
+use mathlib.Core.Bool.{Bool, cond}
 use mathlib.Core.List.{List, [], _∷_, _++_, map}
-use Prim.Native.Nat.{ℕ, zero, suc, _+_, _%_}
-use native.Mathlib.Nat.{add-assoc}
+use Prim.Native.Nat.{ℕ, suc, _+_, _%_}
 use native.Mathlib.Omega.{arith}
 use lib.ListN.{length, getD, set, length-append}
 use borrow.Author.Tests.{le-leb}
@@ -11,12 +10,12 @@ use Rattle.ground.specs.Bytes.{withBit, wordOf}
 use Rattle.ground.specs.Lists.{stored}
 use Rattle.state.specs.State.{none}
 use Rattle.codes.specs.Command.{decodeOf}
-use Rattle.controller.specs.Types.{Panel, DisplayBits, Combination, Display, Auto, Off, Write, Bus, Registers, Target, Set, Mode, DisplayMode, Height, Run, Bit, Decoded, Defined, Up}
+use Rattle.controller.specs.Types.{Panel, DisplayBits, Combination, Display, Off, Write, Target, Set, Mode, DisplayMode, Height, Bit, Defined}
 use Rattle.codes.specs.declared.command.Target.the-variants as target
-use Rattle.effects.specs.Effect.{withMode, withDisplayBits, withCursor, movedOf, setOf}
-use Rattle.controller.specs.Access.{Pair, datum, code, Step, done, answered, refused, commandOf, stepOf}
+use Rattle.effects.specs.Effect.{withMode, withDisplayBits, withCursor, setOf}
+use Rattle.controller.specs.Access.{Pair, datum, code, Step, done, refused, commandOf, stepOf}
 use Rattle.effects.specs.Machine.{Machine, machine}
-use Rattle.controller.specs.Run.{Standing, turnOf, Run as Running, afterTurn, runFrom, short}
+use Rattle.controller.specs.Run.{turnOf, afterTurn, runFrom, short}
 use Rattle.controller.proofs.Splits.{ended, run-append}
 
 -- all of them taken, none with an answer, from any place on
@@ -111,7 +110,7 @@ module _ (p : Panel) (rom : List ℕ) where
 
     pub bit-taken : (k : ℕ) {on : Bool} {n : ℕ} → decodeOf k ≡ Defined (Bit on n)
         → Takes (stepOf p rom) (code k ∷ []) (resting d pointer latch error mem)
-        (resting d pointer latch error (set mem pointer (withBit (getD mem pointer 0) (n % 8) on)))
+        (resting d pointer latch error (set mem pointer (withBit (getD mem pointer 0) n on)))
     bit-taken k h = takes-one (ap (commandOf p rom _) h)
 
     write-taken : Takes (stepOf p rom) (code 0xb0 ∷ []) (resting d pointer latch error mem) (writing d pointer latch error mem)

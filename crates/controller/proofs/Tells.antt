@@ -1,19 +1,19 @@
 -- Commands done apart from the others where auto is off: of the bus and the memory, and of the display.
 use mathlib.Core.Path.{_≡_, refl, ap, sym, _∙_}
-use mathlib.Core.Bool.{Bool, true, false, cond, _||_, true≢false, false≢true}
+use mathlib.Core.Bool.{Bool, true, false, cond, _||_, true≢false}
 use mathlib.Core.List.{List}
 use Prim.Native.Nat.{ℕ, _+_, _/_, _%_, _<_, _≤_}
 use native.Mathlib.Omega.{arith}
-use lib.Dec.{ltb, leb, eqb}
+use lib.Dec.{leb, eqb}
 use lib.ListN.{getD, set}
 use borrow.Author.Tests.{le-leb, lt-ltb}
 use Rattle.ground.specs.Bytes.{wordOf, withBit}
 use Rattle.state.specs.State.{none}
 use Rattle.codes.specs.Command.{has, groupOf, decodeOf, neededOf, isOff, endsAuto}
 use Rattle.codes.specs.declared.command.Target.the-variants as target
-use Rattle.controller.specs.Types.{Panel, DisplayBits, Or, Exor, And, Attribute, Combination, Display, Auto, Off, Bus, Command, Set, Mode, DisplayMode, Height, Run, Store, Load, Bit, Decoded, Defined, Undefined, Move, Told, Drawn}
+use Rattle.controller.specs.Types.{Panel, Or, Exor, And, Attribute, Combination, Display, Auto, Off, Bus, Command, Set, Mode, DisplayMode, Height, Run, Store, Load, Bit, Decoded, Defined, Undefined, Move, Told, Drawn}
 use Rattle.effects.specs.Effect.{withMode, withDisplayBits, withCursor, withPointer, withAuto, withLatch, withPending, movedOf}
-use Rattle.controller.specs.Access.{code, Step, done, refused, effectOf, dropped, commandOf, stepOf}
+use Rattle.controller.specs.Access.{code, done, refused, effectOf, dropped, commandOf, stepOf}
 use Rattle.effects.specs.Machine.{machine}
 use Rattle.controller.specs.Ready.{Tells, Draws}
 
@@ -40,7 +40,7 @@ leaves p rom mem d b k e h =
     (le-leb 0 (b .pending .count) (omega arith))
     ∙ (λ t. done (machine (record { display = d; bus = withPending (sym h t) none }) mem))
 
-bit-code : (k : ℕ) → 240 ≤ k → k < 256 → decodeOf k ≡ Defined (Bit (has (k % 16) 3) (k % 16))
+bit-code : (k : ℕ) → 240 ≤ k → k < 256 → decodeOf k ≡ Defined (Bit (has (k % 16) 3) (k % 16 % 8))
 bit-code k l h = ap (λ (n : ℕ). groupOf n (k % 16)) (let e : k / 16 ≡ 15 = omega arith in e)
 
 module _ {b : Bus} {mem : List ℕ} {still : Bool} {k : ℕ} where
@@ -90,7 +90,7 @@ module _ {b : Bus} {mem : List ℕ} {still : Bool} {k : ℕ} where
         → Tells b mem still k (record { bus = withPending b none; done = true }) after
     tells-bit l h e =
         told
-        (λ o p rom d. taken p rom mem d b k (Bit (has (k % 16) 3) (k % 16)) (bit-code k l h) o (omega arith)
+        (λ o p rom d. taken p rom mem d b k (Bit (has (k % 16) 3) (k % 16 % 8)) (bit-code k l h) o (omega arith)
         ∙ (λ t. done (machine (record { display = d; bus = withPending b none }) (sym e t))))
 
 -- the modes by their low bits

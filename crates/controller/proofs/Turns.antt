@@ -3,16 +3,15 @@ use mathlib.Core.Path.{_≡_, refl, ap, sym, subst, _∙_}
 use mathlib.Core.Logic.{_⊎_, inl, inr}
 use mathlib.Core.Bool.{Bool, true, false, cond, _||_, true≢false}
 use mathlib.Core.List.{List}
-use Prim.Native.Nat.{ℕ, zero, suc, _+_, _<_, _≤_}
-use native.Mathlib.Omega.{arith}
+use Prim.Native.Nat.{ℕ, suc, _+_}
 use lib.Dec.{ltb, leb, eqb, eqb·suc-zero}
 use lib.ListN.{length, set}
-use borrow.Author.Tests.{lt-ltb, le-ltb, eqb-true}
+use borrow.Author.Tests.{eqb-true}
 use Rattle.ground.proofs.Tests.{cond-has, either}
 use Rattle.codes.specs.Command.{neededOf, isOff, endsAuto, decodeOf}
 use Rattle.controller.specs.Types.{Panel, Registers, Auto, Off, Write, Read, Command, Decoded, Defined, Undefined, Acted, Turned}
 use Rattle.effects.specs.Effect.{statusOf}
-use Rattle.controller.specs.Access.{Pair, Step, done, answered, refused, effectOf, dropped, obeyOf, commandOf, dataWriteOf, dataReadOf, tickOf, stepOf, Accessed, replied, accessed, actedOf}
+use Rattle.controller.specs.Access.{Step, done, answered, refused, obeyOf, commandOf, dataWriteOf, dataReadOf, tickOf, stepOf, replied, actedOf}
 use Rattle.effects.specs.Machine.{Machine, machine}
 use Rattle.controller.specs.Run.{went, halted, turnOf}
 use Rattle.controller.specs.Ready.{standing, turnedAll, turnedOf, takenOf, AnsweredAll, answeredAll, answeredOf}

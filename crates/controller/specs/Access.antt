@@ -1,5 +1,5 @@
 -- 01, Bus pairs: what one pair does.
-use Prim.Native.Nat.{ℕ, _%_}
+use Prim.Native.Nat.{ℕ}
 use mathlib.Core.Bool.{cond, not, _&&_, _||_}
 use mathlib.Core.List.{List}
 use lib.Dec.{leb, eqb}
@@ -41,7 +41,7 @@ effectOf p rom s (Store v) = onBus (storing s (bus s .pending .newest)) (withPoi
 effectOf p rom s (Load v) = onBus s (withPointer (withLatch (bus s) (there s)) (movedOf v (pointer s)))
 effectOf p rom s Peek = onBus s (peekOf p rom s (position p (s .registers)))
 effectOf p rom s Copy = copyOf p rom s (position p (s .registers))
-effectOf p rom s (Bit on k) = storing s (withBit (there s) (k % 8) on)
+effectOf p rom s (Bit on k) = storing s (withBit (there s) k on)
 
 -- an accepted command leaves no data pending
 abbrev pub dropped : Machine → Machine

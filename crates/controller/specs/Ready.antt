@@ -6,7 +6,7 @@ use Prim.Native.Nat.{ℕ, _+_, _-_, _<_, _≤_}
 use lib.Dec.{ltb, eqb}
 use lib.ListN.{length, take, drop, set}
 use Rattle.ground.specs.Lists.{stored}
-use Rattle.state.specs.State.{validPanel, validDisplay, validRegisters, none}
+use Rattle.state.specs.State.{validPanel, validRegisters, none}
 use Rattle.display.specs.Frame.{lentLengths}
 use Rattle.controller.specs.Types.{Panel, Display, Bus, Registers, Acted, Turned, Told, Drawn}
 use Rattle.codes.specs.Command.{isOff}

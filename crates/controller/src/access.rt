@@ -5,7 +5,7 @@ ghost use lib.ListN.{length};
 ghost use Rattle.state.specs.State.{none};
 ghost use Rattle.codes.specs.Command.{decodeOf};
 ghost use Rattle.effects.specs.Machine.{machine};
-ghost use Rattle.controller.specs.Access.{effectOf, dropped, obeyOf, commandOf, dataWriteOf, dataReadOf, stepOf, replied, actedOf, accessOf};
+ghost use Rattle.controller.specs.Access.{effectOf, obeyOf, commandOf, dataWriteOf, dataReadOf, stepOf, replied, actedOf, accessOf};
 ghost use Rattle.effects.specs.Effect.{withDisplay, withBus, withPhase, withPending, statusOf};
 ghost use Rattle.sight.specs.Ready.{Ready};
 use crate::store::change;
@@ -103,8 +103,8 @@ fn effect(
             next
         }
         Command::Copy => copy(panel, registers, mem, rom),
-        Command::Bit(on, code) => {
-            change(bus.pointer, mem, code, on);
+        Command::Bit(on, bit) => {
+            change(bus.pointer, mem, bit, on);
             next
         }
     }

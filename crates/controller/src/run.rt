@@ -206,7 +206,7 @@ fn tell(bus: Bus, mem: &mut [u8], quiet: bool, code: u8) -> Told
                     return left(bus);
                 }
                 let low = code % 16;
-                change(bus.pointer, mem, low, (low >> 3) % 2 == 1);
+                change(bus.pointer, mem, low % 8, (low >> 3) % 2 == 1);
                 Told {
                     bus: next,
                     done: true,

@@ -1,6 +1,5 @@
 // What a command does at the pointer.
 ghost use mathlib.Core.Path.{_≡_};
-ghost use Prim.Native.Nat.{_%_};
 ghost use lib.ListN.{length, getD, set};
 ghost use Rattle.ground.specs.Bytes.{withBit};
 ghost use Rattle.effects.specs.Effect.{withPointer, withLatch, movedOf};
@@ -36,10 +35,10 @@ pub(crate) fn fetch(bus: Bus, mem: &[u8], direction: Move) -> Bus
 }
 
 // A bit of the byte where the pointer stands, set or reset.
-pub(crate) fn change(pointer: u16, mem: &mut [u8], code: u8, on: bool)
+pub(crate) fn change(pointer: u16, mem: &mut [u8], bit: u8, on: bool)
     requires { ⌜ length (now mem) ≡ 65536 ⌝ }
-    ensures { λ r. ⌜ now (mem .exit) ≡ set (now (mem .entry)) pointer (withBit (getD (now (mem .entry)) pointer 0) (code % 8) on) ⌝ }
+    ensures { λ r. ⌜ now (mem .exit) ≡ set (now (mem .entry)) pointer (withBit (getD (now (mem .entry)) pointer 0) bit on) ⌝ }
 {
     let at = pointer as usize;
-    mem[at] = with_bit(mem[at], code, on);
+    mem[at] = with_bit(mem[at], bit, on);
 }

@@ -1,7 +1,7 @@
 -- A slice that is filled from the front by a rule of the index: what any loop that writes f 0, f 1, .. in order keeps.
 use mathlib.Core.Path.{_≡_, refl, ap, subst, _∙_}
 use mathlib.Core.List.{List, _++_}
-use Prim.Native.Nat.{ℕ, zero, _+_, _<_, _≤_}
+use Prim.Native.Nat.{ℕ, _+_, _<_, _≤_}
 use native.Mathlib.Omega.{arith}
 use lib.ListN.{length, drop, set}
 use Rattle.ground.specs.Lists.{build}

@@ -1,10 +1,8 @@
 -- The laws of frames: their length, their rows, bytes and dots, and that equal cells make equal frames.
 use mathlib.Core.Path.{_≡_, ap, _∙_}
-use mathlib.Core.List.{List}
 use Prim.Native.Nat.{ℕ, _+_, _-_, _*_, _/_, _%_, _^_, _<_}
 use native.Mathlib.Omega.{arith}
 use lib.ListN.{length, getD, take, drop}
-use Rattle.ground.specs.Lists.{joined}
 use Rattle.ground.specs.Packing.{dotAt, packed, rowBytes, rowFrom, frameFrom}
 use Rattle.ground.proofs.Lists.{build-at, joined-at, joined-length, joined-cong, joined-stretch}
 use Rattle.ground.proofs.Packing.{packed-bit, dot-lt, row-length, row-cong}

@@ -1,7 +1,7 @@
-// Bits of a byte, two bytes as a word, the lesser of two numbers.
+// Bits of a byte, its low bits, two bytes as a word, the lesser of two numbers.
 ghost use mathlib.Core.Path.{_≡_};
-ghost use Rattle.ground.specs.Bytes.{bitOf, withBit, wordOf};
-ghost use Prim.Native.Nat.{_%_, min};
+ghost use Rattle.ground.specs.Bytes.{bitOf, withBit, fullOf, wordOf};
+ghost use Prim.Native.Nat.{_%_, _^_, min};
 
 // Bit `at` of a byte, 0 above its eight.
 pub fn bit(byte: u8, at: usize) -> u8
@@ -22,10 +22,27 @@ pub fn word(low: u8, high: u8) -> u16
 
 // A byte with a bit set or reset, the bit counted modulo 8.
 pub fn with_bit(byte: u8, at: u8, on: bool) -> u8
-    ensures { λ r. ⌜ r ≡ withBit byte (at % 8) on ⌝ }
+    ensures { λ r. ⌜ r ≡ withBit byte at on ⌝ }
 {
     let mask: u8 = 1 << (at % 8);
     if on { byte | mask } else { byte & (255 - mask) }
+}
+
+// The low w bits set, all eight past them.
+pub fn full(width: usize) -> u8
+    ensures { λ r. ⌜ r ≡ fullOf width ⌝ }
+{
+    if 8 <= width {
+        return 255;
+    }
+    (1 << width) - 1
+}
+
+// The low w bits of a byte.
+pub fn low(width: usize, byte: u8) -> u8
+    ensures { λ r. ⌜ r ≡ byte % 2 ^ width ⌝ }
+{
+    byte & full(width)
 }
 
 pub fn lesser(a: usize, b: usize) -> usize

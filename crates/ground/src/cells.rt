@@ -2,7 +2,7 @@
 ghost use mathlib.Core.Path.{_≡_};
 ghost use Prim.Native.Nat.{_*_, _%_, _<_};
 ghost use lib.ListN.{length, getD};
-ghost use Rattle.ground.specs.Packing.{packed, rowBytes, dotIn, rowIn, Packable, packOf};
+ghost use Rattle.ground.specs.Packing.{rowBytes, rowIn, Packable, packOf};
 
 // The low six bits of a cell, 0 past the last.
 fn six(cells: &[u8], c: usize) -> u8

@@ -11,14 +11,16 @@ use Rattle.ground.proofs.Tests.{both-left, both-right, settled}
 use Rattle.state.specs.declared.panel.Panel.{Panel}
 use Rattle.state.specs.declared.reply.Reply.{Reply}
 use Rattle.state.specs.State.{validPanel}
+use Rattle.state.specs.Sizes.{rowSize, validSize}
+use Rattle.state.proofs.Sizes.{is-size}
 use Rattle.display.specs.Frame.{frameFits, replyOf}
 use Rattle.book.specs.declared.check.Checked.{Checked}
-use Rattle.book.specs.Screen.{Screen, screen, screenOf, operationsFrom}
+use Rattle.book.specs.Screen.{Screen, screenOf, operationsFrom}
 use Rattle.book.specs.Checked.{checkedOf}
 use Rattle.book.proofs.Verdicts.{Accepted, checked-is, checked-refusal}
 use Rattle.picture.specs.declared.style.Style.{Style}
 use Rattle.picture.specs.Picture.{Picture, blank, pictureOf, pictureFrame}
-use Rattle.picture.specs.Ready.{pictureWith, Paintable, Sound, appliedIn}
+use Rattle.picture.specs.Ready.{pictureWith, Paintable, DrawableBody, appliedIn}
 use Rattle.picture.specs.Drawn.{Drew, drewAll, planesFit, drawScreen, drawOf}
 use Rattle.picture.proofs.Bodies.{PictureSized, all-sized, blank-sized}
 
@@ -38,13 +40,16 @@ module _ (p : Panel) (book : List ℕ) (number : ℕ) (rom : List ℕ) (normal :
     pub past-valid : validPanel p ≡ true
     past-valid = sym i ∙ not-false v e
 
-    module _ {R : ℕ} (k : R ≡ rowBytes (p .columns) (p .width)) where
+    module _ {R : ℕ} (j : R ≡ validSize p (rowSize p)) where
+      pub row-is : R ≡ rowBytes (p .columns) (p .width)
+      row-is = is-size p past-valid j
+
       -- what the code tests of the lengths
       abbrev lent : Bool
       lent = planesFit p rom g t h && eqb (length f) (8 * p .lines * R)
 
       by-lengths : (b : Bool) → lent ≡ b → past b ≡ drawOf p book number rom normal g t h f
-      by-lengths b l = ap past (sym l ∙ (λ q. planesFit p rom g t h && eqb (length f) (8 * p .lines * k q))) ∙ by-panel true (not-false v e)
+      by-lengths b l = ap past (sym l ∙ (λ q. planesFit p rom g t h && eqb (length f) (8 * p .lines * row-is q))) ∙ by-panel true (not-false v e)
 
       pub draw-2 : not lent ≡ true → drewAll (replyOf 2) g t h f ≡ drawOf p book number rom normal g t h f
       draw-2 l = by-lengths false (not-true lent l)
@@ -84,7 +89,7 @@ module _ (p : Panel) (book : List ℕ) (number : ℕ) (rom : List ℕ) (normal :
             accepted : Accepted p book number r
             accepted = checked-is p book number m z
 
-            pub body-sound : Sound p book (r .start) (r .end)
+            pub body-sound : DrawableBody p book (r .start) (r .end)
             body-sound = record { panel = past-valid; os = accepted .os; operations = accepted .operations }
 
             module _ {g₁ t₁ h₁ : List ℕ} {s : Style} (x : pictureWith g₁ t₁ h₁ s ≡ appliedIn p (operationsFrom (r .end - r .start) p book (r .start) (r .end)) (blank p)) where

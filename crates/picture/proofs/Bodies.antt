@@ -21,7 +21,7 @@ use Rattle.book.proofs.Walking.{Step, step-on, step-end, step-never-faulty}
 use Rattle.picture.specs.declared.cursor.Laid.the-variants.{Nowhere}
 use Rattle.picture.specs.declared.style.Style.{Style}
 use Rattle.picture.specs.Picture.{Picture, blank, filled, applied, appliedAll}
-use Rattle.picture.specs.Ready.{pictureWith, graphicBytes, cellsOf, Sized, InPlane, Ready, appliedIn, Sound}
+use Rattle.picture.specs.Ready.{pictureWith, graphicBytes, cellsOf, Sized, InPlane, PlanesLent, appliedIn, DrawableBody}
 use Rattle.picture.proofs.Storing.{filled-length}
 
 -- the planes of a picture have their sizes
@@ -59,7 +59,7 @@ blank-sized p =
     }
 
 -- the plane that an operation is ready to change
-module _ {p : Panel} {Range : Type 0} {g t h : List ℕ} (k : Ready p Range g t h) where
+module _ {p : Panel} {Range : Type 0} {g t h : List ℕ} (k : PlanesLent p Range g t h) where
   pub in-graphic : InPlane p Range (graphicBytes p) g
   in-graphic = record { valid = k .valid; range = k .range; sized = k .sized .graphic }
 
@@ -100,8 +100,8 @@ blank-is p k i j l =
 
 -- an operation by what it was found to be
 module _ (p : Panel) (book : List ℕ) {o x : Placed} (e : o ≡ x) where
-  pub ready-as : {g t h : List ℕ} → Ready p (InRange p book o) g t h → Ready p (InRange p book x) g t h
-  ready-as {g} {t} {h} k = subst (λ (y : Placed). Ready p (InRange p book y) g t h) e k
+  pub ready-as : {g t h : List ℕ} → PlanesLent p (InRange p book o) g t h → PlanesLent p (InRange p book x) g t h
+  ready-as {g} {t} {h} k = subst (λ (y : Placed). PlanesLent p (InRange p book y) g t h) e k
 
   pub applied-as : (a : Picture) {b : Picture} → b ≡ applied p (operationOf book x) a → b ≡ applied p (operationOf book o) a
   applied-as a h = h ∙ ap (λ (y : Placed). applied p (operationOf book y) a) (sym e)
@@ -115,7 +115,7 @@ pub record Drawing (p : Panel) (book : List ℕ) (start end : ℕ) (a b : Pictur
   pub gives : appliedAll p rest b ≡ appliedIn p (operationsFrom (end - start) p book start end) a
 
 module _ (p : Panel) (book : List ℕ) (start end : ℕ) (a : Picture) where
-  pub drawing : Sound p book start end → PictureSized p a → Drawing p book start end a a start
+  pub drawing : DrawableBody p book start end → PictureSized p a → Drawing p book start end a a start
   drawing s k =
       record {
         valid = s .panel;
@@ -133,7 +133,7 @@ module _ (p : Panel) (book : List ℕ) (start end : ℕ) (a : Picture) where
       step : Step p book end o behind (k .rest)
       step = step-on p book next end (k .left) (sym i ∙ e)
 
-      pub drawing-ready : Ready p (InRange p book o) (b .graphic) (b .codes) (b .glyphs)
+      pub drawing-ready : PlanesLent p (InRange p book o) (b .graphic) (b .codes) (b .glyphs)
       drawing-ready = record { valid = k .valid; range = drawing-found .range; sized = k .sized }
 
       pub drawing-on : {c : Picture} → c ≡ applied p (operationOf book o) b → Drawing p book start end a c behind

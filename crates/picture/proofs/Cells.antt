@@ -18,7 +18,7 @@ use Rattle.ground.proofs.Packs.{packed-by-rule}
 use Rattle.state.specs.declared.panel.Panel.{Panel}
 use Rattle.state.specs.Combination.{combined}
 use Rattle.picture.specs.declared.style.Style.{Style}
-use Rattle.picture.specs.Picture.{pictureGlyph, litIn, coveredBy, pictureCell}
+use Rattle.picture.specs.Picture.{litIn, coveredBy, pictureCell}
 use Rattle.picture.specs.Layers.{glyphIn, planeText, planeGraphic}
 use Rattle.picture.specs.Ready.{pictureWith}
 
@@ -40,7 +40,7 @@ module _ (p : Panel) (rom graphic codes glyphs : List ℕ) (s : Style) (normal :
   cell-as : (v : Bool) → (a && b) ≡ v
       → cond v (2 ^ p .width - 1) (combined (s .combination) (planeText p rom codes glyphs r c) (planeGraphic p graphic r c))
       ≡ pictureCell p rom (pictureWith graphic codes glyphs s) normal r c
-  unfolding pictureCell pictureGlyph planeText planeGraphic glyphIn
+  unfolding pictureCell
   cell-as v e =
       ap (λ (t : Bool). cond t (2 ^ p .width - 1) (combined (s .combination) (planeText p rom codes glyphs r c) (planeGraphic p graphic r c)))
       (sym e ∙ (λ k. i k && j k))

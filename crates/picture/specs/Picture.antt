@@ -1,8 +1,7 @@
 -- 01, Screens: the picture, defined over planes with no register in it.
 use Prim.Native.Nat.{ℕ, zero, suc, _+_, _-_, _*_, _/_, _%_, _^_}
-use mathlib.Core.Bool.{Bool, true, false, cond, not, _&&_}
+use mathlib.Core.Bool.{Bool, true, false, cond, _&&_}
 use mathlib.Core.List.{List, [], _∷_}
-use lib.Dec.{ltb}
 use lib.ListN.{getD, set, replicate}
 use lib.Seq.{sets}
 use Rattle.ground.specs.Bytes.{withBit}
@@ -14,6 +13,7 @@ use Rattle.state.specs.declared.registers.Combination.the-variants.{Or}
 use Rattle.state.specs.Combination.{combined}
 use Rattle.display.specs.Displayed.{cursorLit, cursorCovers}
 use Rattle.book.specs.Operation.{Operation, text, rectangle, dot, glyph, cursor, combine, dotByte, dotBit}
+use Rattle.picture.specs.Layers.{planeText, planeGraphic}
 use Rattle.picture.specs.declared.cursor.Laid.{Laid}
 use Rattle.picture.specs.declared.cursor.Laid.the-variants.{Nowhere, Over}
 
@@ -72,10 +72,6 @@ appliedAll p (o ∷ os) a = appliedAll p os (applied p o a)
 unfoldable pub pictureOf : Panel → List Operation → Picture
 pictureOf p os = appliedAll p os (blank p)
 
--- codes below 80H from the ROM
-unfoldable pub pictureGlyph : List ℕ → Picture → ℕ → ℕ → ℕ
-pictureGlyph rom a k v = cond (ltb k 0x80) (getD rom (8 * k + v) 0) (getD (a .glyphs) (8 * (k - 0x80) + v) 0)
-
 abbrev pub litIn : Laid → Bool → Bool
 litIn Nowhere normal = false
 litIn (Over k blink) normal = cursorLit true blink normal
@@ -89,9 +85,7 @@ unfoldable pub pictureCell : Panel → List ℕ → Picture → Bool → ℕ →
 pictureCell p rom a normal r c =
     cond (litIn (a .cursor) normal && coveredBy p (a .cursor) (r / 8) (r % 8) c)
     (2 ^ p .width - 1)
-    (combined (a .combination)
-    (pictureGlyph rom a (getD (a .codes) (r / 8 * p .columns + c) 0) (r % 8) % 2 ^ p .width)
-    (getD (a .graphic) (r * p .columns + c) 0 % 2 ^ p .width))
+    (combined (a .combination) (planeText p rom (a .codes) (a .glyphs) r c) (planeGraphic p (a .graphic) r c))
 
 -- the picture's dots in a phase, packed as a frame
 unfoldable pub pictureFrame : Panel → List ℕ → Picture → Bool → List ℕ

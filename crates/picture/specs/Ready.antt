@@ -33,7 +33,7 @@ pub record InPlane (p : Panel) (Range : Type 0) (size : ℕ) (plane : List ℕ) 
   pub range : Range
   pub sized : length plane ≡ size
 
-pub record Ready (p : Panel) (Range : Type 0) (graphic codes glyphs : List ℕ) : Type 0 where
+pub record PlanesLent (p : Panel) (Range : Type 0) (graphic codes glyphs : List ℕ) : Type 0 where
   pub valid : validPanel p ≡ true
   pub range : Range
   pub sized : Sized p graphic codes glyphs
@@ -44,7 +44,7 @@ appliedIn p (screen os) a = appliedAll p os a
 appliedIn p (refused n place) a = a
 
 -- a body on a valid panel, none of its operations faulty
-pub record Sound (p : Panel) (book : List ℕ) (start end : ℕ) : Type 0 where
+pub record DrawableBody (p : Panel) (book : List ℕ) (start end : ℕ) : Type 0 where
   pub panel : validPanel p ≡ true
   pub os : List Operation
   pub operations : operationsFrom (end - start) p book start end ≡ screen os

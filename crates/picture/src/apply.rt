@@ -8,7 +8,7 @@ ghost use Rattle.book.specs.Operation.{operationOf, dotByte, dotBit};
 ghost use Rattle.book.specs.Range.{InRange, TextRange, RectangleRange, DotRange, GlyphRange};
 ghost use Rattle.book.specs.Screen.{operationsFrom};
 ghost use Rattle.picture.specs.Picture.{filled, applied, blank};
-ghost use Rattle.picture.specs.Ready.{pictureWith, cellsOf, graphicBytes, InPlane, Ready, appliedIn, Sized, Sound};
+ghost use Rattle.picture.specs.Ready.{pictureWith, cellsOf, graphicBytes, InPlane, PlanesLent, appliedIn, Sized, DrawableBody};
 use super::cursor::Laid;
 use super::plane::clear;
 use super::plane::fill;
@@ -86,7 +86,7 @@ fn apply(
     glyphs: &mut [u8],
     style: Style,
 ) -> Style
-    requires { ⌜ Ready panel (InRange panel (now book) placed) (now graphic) (now codes) (now glyphs) ⌝ }
+    requires { ⌜ PlanesLent panel (InRange panel (now book) placed) (now graphic) (now codes) (now glyphs) ⌝ }
     ensures { λ r. ⌜ pictureWith (now (graphic .exit)) (now (codes .exit)) (now (glyphs .exit)) r
         ≡ applied panel (operationOf (now (book .entry)) placed) (pictureWith (now (graphic .entry)) (now (codes .entry)) (now (glyphs .entry)) style) ⌝ }
 {
@@ -158,7 +158,7 @@ fn apply_all(
     glyphs: &mut [u8],
     style: Style,
 ) -> Style
-    requires { ⌜ Sound panel (now book) start end ⌝ }
+    requires { ⌜ DrawableBody panel (now book) start end ⌝ }
     requires { ⌜ Sized panel (now graphic) (now codes) (now glyphs) ⌝ }
     ensures { λ r. ⌜ pictureWith (now (graphic .exit)) (now (codes .exit)) (now (glyphs .exit)) r
         ≡ appliedIn panel (operationsFrom (end - start) panel (now (book .entry)) start end) (pictureWith (now (graphic .entry)) (now (codes .entry)) (now (glyphs .entry)) style) ⌝ }
@@ -202,7 +202,7 @@ pub(crate) fn picture(
     codes: &mut [u8],
     glyphs: &mut [u8],
 ) -> Style
-    requires { ⌜ Sound panel (now book) start end ⌝ }
+    requires { ⌜ DrawableBody panel (now book) start end ⌝ }
     requires { ⌜ Sized panel (now graphic) (now codes) (now glyphs) ⌝ }
     ensures { λ r. ⌜ pictureWith (now (graphic .exit)) (now (codes .exit)) (now (glyphs .exit)) r
         ≡ appliedIn panel (operationsFrom (end - start) panel (now (book .entry)) start end) (blank panel) ⌝ }

@@ -1,30 +1,15 @@
 // The byte of a picture's cell in a dot row.
 ghost use mathlib.Core.Path.{_≡_};
-ghost use mathlib.Core.Logic.{_⊎_};
-ghost use Prim.Native.Nat.{_-_, _%_, _^_, _<_};
+ghost use Prim.Native.Nat.{_<_};
 ghost use lib.ListN.{length};
 ghost use Rattle.picture.specs.Picture.{pictureCell};
 ghost use Rattle.picture.specs.Layers.{glyphIn, planeText, planeGraphic};
 ghost use Rattle.picture.specs.Ready.{pictureWith, cellsOf, graphicBytes, InPlane, OnPanel, Paintable};
 use super::style::Style;
+use ground::bytes::full;
+use ground::bytes::low;
 use state::combination::combine;
 use state::panel::Panel;
-
-// The low w bits set.
-fn full(width: usize) -> u8
-    requires { ⌜ ((width ≡ 6) ⊎ (width ≡ 8)) ⌝ }
-    ensures { λ r. ⌜ r ≡ 2 ^ width - 1 ⌝ }
-{
-    if width == 6 { 63 } else { 255 }
-}
-
-// The low w bits of a byte.
-fn low(width: usize, n: u8) -> u8
-    requires { ⌜ ((width ≡ 6) ⊎ (width ≡ 8)) ⌝ }
-    ensures { λ r. ⌜ r ≡ n % 2 ^ width ⌝ }
-{
-    n & full(width)
-}
 
 // The glyph row of a code.
 fn glyph_row(rom: &[u8], glyphs: &[u8], code: u8, v: usize) -> u8

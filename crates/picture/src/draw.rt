@@ -3,7 +3,6 @@ ghost use mathlib.Core.Path.{_≡_};
 ghost use Rattle.picture.specs.Drawn.{drewAll, drawOf};
 use super::apply::picture;
 use super::paint::paint_rows;
-use super::paint::row_bytes;
 use book::check::check;
 use state::panel::Panel;
 use state::reply::Reply;
@@ -30,7 +29,7 @@ pub fn draw(
             place: 0,
         };
     }
-    let bytes = row_bytes(panel.columns, panel.width);
+    let bytes = panel.row_size();
     let fits = (rom.len() == 1024)
         & (graphic.len() == 8 * panel.lines * panel.columns)
         & (codes.len() == panel.lines * panel.columns)

@@ -1,6 +1,6 @@
 // The picture's dots, row by row, each row into its own stretch of the frame.
 ghost use mathlib.Core.Path.{_≡_};
-ghost use Prim.Native.Nat.{_*_, _<_, _≤_};
+ghost use Prim.Native.Nat.{_*_, _<_};
 ghost use lib.ListN.{length};
 ghost use Rattle.ground.specs.Packing.{rowBytes, rowFrom};
 ghost use Rattle.picture.specs.Picture.{pictureCell, pictureFrame};
@@ -9,14 +9,6 @@ use super::cell::cell;
 use super::style::Style;
 use ground::cells::pack;
 use state::panel::Panel;
-
-// R, the bytes of a row.
-pub(crate) fn row_bytes(columns: usize, width: usize) -> usize
-    requires { ⌜ (columns ≤ 80) × (width ≤ 8) ⌝ }
-    ensures { λ r. ⌜ r ≡ rowBytes columns width ⌝ }
-{
-    (columns * width + 7) / 8
-}
 
 // The cells of a dot row, at most eighty, gathered and packed.
 fn paint_row(

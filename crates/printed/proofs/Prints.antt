@@ -23,8 +23,9 @@ use Rattle.controller.specs.declared.run.Ran.{Ran}
 use Rattle.controller.specs.Access.{stepOf}
 use Rattle.controller.specs.Run.{pairsOf, runFrom, RanAll, ranAll, ranOf, ranNone, runOf}
 use Rattle.controller.specs.Ready.{standing}
-use Rattle.controller.proofs.Laws.{sounds, sounds-valid}
-use Rattle.controller.proofs.Splitting.{Kept, run-kept}
+use Rattle.controller.proofs.Laws.{Sounds, sounds, sounds-valid}
+use Rattle.controller.proofs.Goings.{Kept}
+use Rattle.controller.proofs.Splitting.{running-kept}
 use Rattle.printed.specs.Put.{Put}
 use Rattle.printed.specs.Printed.{panelIn, logIn, characterRow, characters, ranIn, textOf, logText, ranLine, frameLine, frameLines, printed, printOf}
 use Rattle.printed.specs.Text.{hexLineAt, hexLines}
@@ -98,8 +99,8 @@ pub record Came (p : Panel) (e : RanAll) : Type 0 where
   pub valid : eqb (e .ran .number) 1 ≡ false → (validPanel p && validRegisters (e .ran .registers)) ≡ true
 
 module _ (p : Panel) (r : Registers) (mem rom log : List ℕ) (limit : ℕ) (answers : List ℕ) (v : validRegisters r ≡ true) (long : length mem ≡ 65536) where
-  kept : Kept (runFrom (stepOf p rom) 0 (take limit (pairsOf log)) (standing r mem answers 0))
-  kept = run-kept p rom (take limit (pairsOf log)) 0 (standing r mem answers 0) (sounds r mem v long) (omega arith)
+  kept : Kept Sounds (runFrom (stepOf p rom) 0 (take limit (pairsOf log)) (standing r mem answers 0))
+  kept = running-kept p rom (take limit (pairsOf log)) 0 (standing r mem answers 0) (sounds r mem v long) (omega arith)
 
   pub run-came : Came p (runOf p r mem rom log limit answers)
   unfolding runOf

@@ -19,11 +19,12 @@ use Rattle.display.proofs.Painted.{frame-by-rule}
 use Rattle.display.proofs.Plain.{plain, plainGlyph, cell-plain}
 use Rattle.effects.specs.Effect.{withPhase}
 use Rattle.writer.specs.Homes.{graphicHome, textHome, glyphHome}
-use Rattle.writer.proofs.Places.{some-width}
+use Rattle.state.proofs.Sizes.{some-width}
 use Rattle.writer.proofs.Apart.{graphic-below-text, text-below-glyphs}
 use Rattle.picture.specs.declared.cursor.Laid.{Laid}
 use Rattle.picture.specs.declared.cursor.Laid.the-variants.{Nowhere, Over}
-use Rattle.picture.specs.Picture.{Picture, pictureGlyph, litIn, coveredBy, pictureCell, pictureFrame}
+use Rattle.picture.specs.Picture.{Picture, litIn, coveredBy, pictureCell, pictureFrame}
+use Rattle.picture.specs.Layers.{glyphIn, planeText, planeGraphic}
 use Rattle.rehearsal.proofs.Areas.{laid, graphic-at, text-at, glyph-at}
 use Rattle.rehearsal.proofs.Simulated.{cursorOn, cursorBlinks, cursorIn, planeAt, displayFor, Shape}
 
@@ -48,8 +49,8 @@ module _ (p : Panel) (v : validPanel p ≡ true) (g h : List ℕ) (a : Picture) 
       let e : (graphicHome + r * p .columns + c) % 65536 ≡ r * p .columns + c = omega (arith, graphic-below-text p v, text-below-glyphs p v) in
       ap (λ (n : ℕ). getD mem n 0) e ∙ graphic-at g h (a .graphic) (a .codes) (a .glyphs) (s .fits) (r * p .columns + c) (omega (arith, s .graphic))
 
-  glyph-same : (rom : List ℕ) (k i : ℕ) → plainGlyph 0x1f mem rom k i ≡ pictureGlyph rom a k i
-  unfolding pictureGlyph
+  glyph-same : (rom : List ℕ) (k i : ℕ) → plainGlyph 0x1f mem rom k i ≡ glyphIn rom (a .glyphs) k i
+  unfolding glyphIn
   glyph-same rom k i = by (ltb k 0x80) refl
     where
       by : (t : Bool) → ltb k 0x80 ≡ t
@@ -63,7 +64,7 @@ module _ (p : Panel) (v : validPanel p ≡ true) (g h : List ℕ) (a : Picture) 
   module _ (d : Display) (rom : List ℕ) (phase : Bool) where
     cell-same : (r c : ℕ) → r < 8 * p .lines → c < p .columns
         → cellByte p (withPhase (displayFor p d a) phase) mem rom r c ≡ pictureCell p rom a phase r c
-    unfolding displayFor pictureCell
+    unfolding displayFor pictureCell planeText planeGraphic
     cell-same r c i j =
         let w : ℕ = 2 ^ p .width in
         cell-plain p (planeAt (textHome p) p) (planeAt graphicHome p) 0x1f (a .combination) (cursorOn (a .cursor)) (cursorBlinks (a .cursor)) (cursorIn (d .cursor) (a .cursor)) phase mem rom r c (s .plain)

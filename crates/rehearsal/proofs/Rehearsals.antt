@@ -3,20 +3,19 @@ use mathlib.Core.Path.{_≡_, refl, sym, ap, subst, _∙_}
 use mathlib.Core.Bool.{Bool, true, false, cond, _&&_}
 use mathlib.Core.List.{List, []}
 use Prim.Native.Nat.{ℕ, _*_, _<_, _≤_}
-use native.Mathlib.Nat.{mul-le-mul}
 use native.Mathlib.Omega.{arith}
 use lib.Dec.{ltb, eqb}
 use lib.ListN.{length, getD, take}
 use lib.Seq.{sets}
 use borrow.Author.Tests.{eqb-true, eq-eqb, le-ltb}
-use Rattle.ground.specs.Packing.{rowBytes}
 use Rattle.ground.proofs.Tests.{both, both-left, both-right, settled}
 use Rattle.state.specs.declared.panel.Panel.{Panel}
 use Rattle.state.specs.declared.registers.Registers.{Registers}
 use Rattle.state.specs.declared.reply.Reply.{Reply}
+use Rattle.state.specs.Sizes.{frameSize, validSize}
+use Rattle.state.proofs.Sizes.{is-size}
 use Rattle.state.specs.State.{validPanel, validRegisters}
 use Rattle.display.specs.Frame.{lentLengths, frameFits, Painted, painted, paintOf}
-use Rattle.state.proofs.Valid.{panelled, narrow}
 use Rattle.display.proofs.Doors.{painting-0}
 use Rattle.controller.specs.declared.run.Ran.{Ran}
 use Rattle.controller.specs.Run.{logOf, RanAll, ranAll, runOf}
@@ -29,7 +28,7 @@ use Rattle.writer.proofs.Answers.{Streamed, write-accepted}
 use Rattle.picture.specs.Picture.{pictureOf, pictureFrame}
 use Rattle.rehearsal.specs.declared.rehearse.Rehearsed.{Rehearsed}
 use Rattle.rehearsal.specs.Demand3.{Shows}
-use Rattle.rehearsal.specs.Rehearsed.{Rehearsal, rehearsedAll, refusedWith, refusal, shownOf, rehearseScreen, rehearseOf, Outright}
+use Rattle.rehearsal.specs.Rehearsed.{Rehearsal, rehearsedAll, refusedRehearsal, refusal, shownOf, rehearseScreen, rehearseOf, Outright}
 use Rattle.rehearsal.proofs.Demand3.{holding-length, bits, registers-then}
 
 module _ (p : Panel) (r : Registers) (mem rom book : List ℕ) (number : ℕ) (room frame : List ℕ) where
@@ -41,14 +40,10 @@ module _ (p : Panel) (r : Registers) (mem rom book : List ℕ) (number : ℕ) (r
   pub valid-is : {a b : Bool} (t : Bool) → a ≡ validPanel p → b ≡ validRegisters r → (a && b) ≡ t → (validPanel p && validRegisters r) ≡ t
   valid-is t i j e = sym (λ k. i k && j k) ∙ e
 
-  pub fits-is : {n : ℕ} (t : Bool) → n ≡ 8 * p .lines * rowBytes (p .columns) (p .width) → (lentLengths mem rom && eqb (length frame) n) ≡ t
+  pub fits-is : {n : ℕ} (t : Bool) → (validPanel p && validRegisters r) ≡ true → n ≡ validSize p (frameSize p) → (lentLengths mem rom && eqb (length frame) n) ≡ t
       → (lentLengths mem rom && frameFits p frame) ≡ t
-  fits-is t i e = sym (λ k. lentLengths mem rom && eqb (length frame) (i k)) ∙ e
-
-  pub frame-small : (validPanel p && validRegisters r) ≡ true → (p .lines ≤ 16) × (p .columns * p .width ≤ 640)
-  frame-small v =
-      let q = panelled p (both-left _ (validRegisters r) v) in
-      (q .lines, mul-le-mul {n₂ = 80} {m₂ = 8} (q .columns) (narrow q))
+  fits-is t v i e =
+      sym (λ k. lentLengths mem rom && eqb (length frame) (is-size p (both-left (validPanel p) (validRegisters r) v) i k)) ∙ e
 
   -- a refusal that leaves memory as it was says nothing of the frame
   refuses : {x : Rehearsed} {f : List ℕ} → (x .number ≡ 0 → ⊥) → Outright p r mem rom book number x mem f
@@ -62,7 +57,7 @@ module _ (p : Panel) (r : Registers) (mem rom book : List ℕ) (number : ℕ) (r
       ap (λ (t : Bool). cond t (cond (lentLengths mem rom && frameFits p frame) (rehearseScreen p r mem rom room frame (screenOf p book number)) (refusal p r mem rom room frame 2 0)) (refusal p r mem rom room frame 1 0))
       (sym e)
 
-  pub rehearse-1 : {x : Rehearsed} → (validPanel p && validRegisters r) ≡ false → x ≡ refusedWith 1 0 r → Meets x mem room frame
+  pub rehearse-1 : {x : Rehearsed} → (validPanel p && validRegisters r) ≡ false → x ≡ refusedRehearsal 1 0 r → Meets x mem room frame
   rehearse-1 {x} e h = (
     ap (λ (y : Rehearsed). rehearsedAll y mem room frame) h ∙ door false e,
     refuses (λ z. let n : x .number ≡ 1 = ap (λ (y : Rehearsed). y .number) h in omega arith),
@@ -74,7 +69,7 @@ module _ (p : Panel) (r : Registers) (mem rom book : List ℕ) (number : ℕ) (r
     inner t e =
         ap (λ (t : Bool). cond t (rehearseScreen p r mem rom room frame (screenOf p book number)) (refusal p r mem rom room frame 2 0)) (sym e) ∙ door true v
 
-    pub rehearse-2 : {x : Rehearsed} → (lentLengths mem rom && frameFits p frame) ≡ false → x ≡ refusedWith 2 0 r → Meets x mem room frame
+    pub rehearse-2 : {x : Rehearsed} → (lentLengths mem rom && frameFits p frame) ≡ false → x ≡ refusedRehearsal 2 0 r → Meets x mem room frame
     rehearse-2 {x} e h = (
       ap (λ (y : Rehearsed). rehearsedAll y mem room frame) h ∙ inner false e,
       refuses (λ z. let n : x .number ≡ 2 = ap (λ (y : Rehearsed). y .number) h in omega arith),
@@ -83,16 +78,16 @@ module _ (p : Panel) (r : Registers) (mem rom book : List ℕ) (number : ℕ) (r
     module _ (l : (lentLengths mem rom && frameFits p frame) ≡ true) {w : Written} {after : List ℕ} (h : wroteAll w after ≡ writeOf p book number room) where
       -- what the writer refused is refused with its number and place, and the room is as it was
       same-refusal : (s : Screen) → wroteAll w after ≡ writeScreen p room s → (w .number ≡ 0 → ⊥)
-          → rehearsedAll (refusedWith (w .number) (w .place) r) mem after frame ≡ rehearseScreen p r mem rom room frame s
+          → rehearsedAll (refusedRehearsal (w .number) (w .place) r) mem after frame ≡ rehearseScreen p r mem rom room frame s
       same-refusal (screen os) e nz = go (ltb (length room) (2 * countOf p os)) e
         where
           go : (t : Bool) → wroteAll w after ≡ cond t (wrote 12 (countOf p os) 0 room) (wrote 0 0 (countOf p os) (sets room 0 (logOf (streamOf p os))))
-              → rehearsedAll (refusedWith (w .number) (w .place) r) mem after frame ≡ cond t (refusal p r mem rom room frame 12 (countOf p os)) (shownOf p r mem rom room frame os)
-          go true e = ap (λ (o : Wrote). rehearsedAll (refusedWith (o .written .number) (o .written .place) r) mem (o .room) frame) e
+              → rehearsedAll (refusedRehearsal (w .number) (w .place) r) mem after frame ≡ cond t (refusal p r mem rom room frame 12 (countOf p os)) (shownOf p r mem rom room frame os)
+          go true e = ap (λ (o : Wrote). rehearsedAll (refusedRehearsal (o .written .number) (o .written .place) r) mem (o .room) frame) e
           go false e = absurd (nz (ap (λ (o : Wrote). o .written .number) e))
-      same-refusal (refused n place) e nz = ap (λ (o : Wrote). rehearsedAll (refusedWith (o .written .number) (o .written .place) r) mem (o .room) frame) e
+      same-refusal (refused n place) e nz = ap (λ (o : Wrote). rehearsedAll (refusedRehearsal (o .written .number) (o .written .place) r) mem (o .room) frame) e
 
-      pub rehearse-refused : {x : Rehearsed} → (w .number ≡ 0 → ⊥) → x ≡ refusedWith (w .number) (w .place) r → Meets x mem after frame
+      pub rehearse-refused : {x : Rehearsed} → (w .number ≡ 0 → ⊥) → x ≡ refusedRehearsal (w .number) (w .place) r → Meets x mem after frame
       unfolding writeOf
       rehearse-refused {x} nz e = (
         ap (λ (y : Rehearsed). rehearsedAll y mem after frame) e

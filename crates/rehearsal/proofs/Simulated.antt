@@ -36,7 +36,8 @@ use Rattle.book.proofs.Walking.{walk-all}
 use Rattle.writer.specs.Homes.{graphicHome, textHome, glyphHome}
 use Rattle.writer.specs.Stream.{pointTo, block, rowBlocks, combinationCode, operationPairs, bodyPairs}
 use Rattle.writer.proofs.Lengths.{part-length}
-use Rattle.writer.proofs.Places.{bit-few, some-width, columns-few, lines-few}
+use Rattle.state.proofs.Sizes.{some-width, columns-few, lines-few}
+use Rattle.book.proofs.Places.{bit-few}
 use Rattle.picture.specs.declared.cursor.Laid.{Laid}
 use Rattle.picture.specs.declared.cursor.Laid.the-variants.{Nowhere, Over}
 use Rattle.picture.specs.Picture.{Picture, withPlanes, filled, applied, appliedAll}
@@ -187,12 +188,11 @@ module _ (p : Panel) (v : validPanel p ≡ true) (rom : List ℕ) (r : Registers
         let column : x / p .width < p .columns = div-lt-iff-lt-mul (some-width p v) .1 (k .across) in
         let l : i < length (a .graphic) = omega (arith, s .graphic, mul-le-mul-right (p .columns) (k .down)) in
         let w : wordOf ((graphicHome + i) % 256) ((graphicHome + i) / 256) ≡ i = omega arith in
-        let n : (cond on 8 0 + b) % 8 ≡ b = low on b (bit-few p v x) in
         record {
           last = i;
           run = subst
               (λ (t : Machine). Takes (stepOf p rom) (operationPairs p (dot x y on)) (machineFor p r g h a q) t)
-              ((λ j. resting (displayFor p (r .display) a) (w j) (r .bus .latch) (r .bus .error) (set m (w j) (withBit (getD m (w j) 0) (n j) on)))
+              ((λ j. resting (displayFor p (r .display) a) (w j) (r .bus .latch) (r .bus .error) (set m (w j) (withBit (getD m (w j) 0) b on)))
               ∙ (λ j. resting (displayFor p (r .display) a) i (r .bus .latch) (r .bus .error)
               ((ap (λ (c : ℕ). set m i (withBit c b on)) (graphic-at g h (a .graphic) (a .codes) (a .glyphs) (s .fits) i l)
               ∙ set-graphic g h (a .graphic) (a .codes) (a .glyphs) (s .fits) i (withBit (getD (a .graphic) i 0) b on) l) j)))
@@ -200,10 +200,6 @@ module _ (p : Panel) (v : validPanel p ≡ true) (rom : List ℕ) (r : Registers
               (bit-taken p rom _ (wordOf ((graphicHome + i) % 256) ((graphicHome + i) / 256)) (r .bus .latch) (r .bus .error) m (cond on 0xf8 0xf0 + b) (decode-bit on b (bit-few p v x))));
           shape = shape-planes s _ _ _ (length-set (a .graphic) i _) refl refl;
         }
-      where
-        low : (on : Bool) (b : ℕ) → b < 8 → (cond on 8 0 + b) % 8 ≡ b
-        low true b l = omega arith
-        low false b l = omega arith
 
   sim-rows : (height top column width value : ℕ) → top + height ≤ 8 * p .lines → column + width ≤ p .columns → (a : Picture) → Shape p g h a → (q : ℕ)
       → Sim (rowBlocks p top column height width value) a (withPlanes a (filled p top column height width value (a .graphic)) (a .codes) (a .glyphs)) q

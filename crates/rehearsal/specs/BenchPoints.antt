@@ -39,7 +39,7 @@ pub record Peeks (t : Run Machine) (error : Bool) (latch : ℕ) : Type 0 where
   pub latches : t .standing .machine .registers .bus .latch ≡ latch
 
 -- all pairs are accepted, and this alone was answered
-pub record Tells (t : Run Machine) (byte : ℕ) : Type 0 where
+pub record StatusTells (t : Run Machine) (byte : ℕ) : Type 0 where
   pub accepted : t .end ≡ whole
   pub once : t .standing .given ≡ 1
   pub reads : t .standing .answers ≡ byte ∷ []
@@ -58,13 +58,13 @@ module _ (p : Panel) (rom mem : List ℕ) where
     pub status-auto-read : r .display .phase ≡ true → r .bus .error ≡ false → r .bus .auto ≡ Read → statusOf r ≡ 0xa4
     pub status-tick : (b : ℕ) → statusOf (ran resetRegisters (tick b ∷ []) .standing .machine .registers) ≡ 0x23
     -- The same through the bus: at first, after B0H, after B1H, after a tick.
-    pub reads-reset : (b : ℕ) → Tells (ran resetRegisters (status b ∷ [])) 0xa3
+    pub reads-reset : (b : ℕ) → StatusTells (ran resetRegisters (status b ∷ [])) 0xa3
     pub reads-auto-write : (b : ℕ) → r .display .phase ≡ true → r .bus .error ≡ false → r .bus .auto ≡ Off
-        → Tells (ran r (code 0xb0 ∷ status b ∷ [])) 0xa8
+        → StatusTells (ran r (code 0xb0 ∷ status b ∷ [])) 0xa8
     pub reads-auto-read : (b : ℕ) → r .display .phase ≡ true → r .bus .error ≡ false → r .bus .auto ≡ Off
-        → Tells (ran r (code 0xb1 ∷ status b ∷ [])) 0xa4
+        → StatusTells (ran r (code 0xb1 ∷ status b ∷ [])) 0xa4
     pub reads-tick : (a b : ℕ) → r .display .phase ≡ true → r .bus .error ≡ false → r .bus .auto ≡ Off
-        → Tells (ran r (tick a ∷ status b ∷ [])) 0x23
+        → StatusTells (ran r (tick a ∷ status b ∷ [])) 0x23
     -- Pointer FFFFH, datum 55H, C0H: FFFFH holds 55H, pointer 0000H.
     pub pointer-up : length mem ≡ 65536 → r .bus .auto ≡ Off → r .bus .pointer ≡ 0xffff
         → Leaves (ran r (datum 0x55 ∷ code 0xc0 ∷ [])) 0x0000 0xffff 0x55

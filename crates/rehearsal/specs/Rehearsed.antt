@@ -28,13 +28,13 @@ pub record Rehearsal : Type 0 where
 abbrev pub rehearsedAll : Rehearsed → List ℕ → List ℕ → List ℕ → Rehearsal
 rehearsedAll rehearsed memory room frame = record { rehearsed = rehearsed; memory = memory; room = room; frame = frame }
 
-abbrev pub refusedWith : ℕ → ℕ → Registers → Rehearsed
-refusedWith n place r = record { number = n; place = place; pairs = 0; registers = r }
+abbrev pub refusedRehearsal : ℕ → ℕ → Registers → Rehearsed
+refusedRehearsal n place r = record { number = n; place = place; pairs = 0; registers = r }
 
 module _ (p : Panel) (r : Registers) (mem rom room frame : List ℕ) where
   -- a refusal changes nothing
   abbrev pub refusal : ℕ → ℕ → Rehearsal
-  refusal n place = rehearsedAll (refusedWith n place r) mem room frame
+  refusal n place = rehearsedAll (refusedRehearsal n place r) mem room frame
 
   -- the frame is the picture in the machine's phase; memory has its planes in the three areas and is else as it was; the room's start is the stream
   abbrev pub shownOf : List Operation → Rehearsal

@@ -1,8 +1,7 @@
 // A screen rehearsed: its stream written, run on a controller, and the frame painted.
 ghost use mathlib.Core.Path.{_≡_};
-ghost use Prim.Native.Nat.{_*_, _≤_};
-ghost use Rattle.ground.specs.Packing.{rowBytes};
-ghost use Rattle.rehearsal.specs.Rehearsed.{refusedWith, rehearsedAll, rehearseOf, Outright};
+ghost use Prim.Native.Nat.{_*_};
+ghost use Rattle.rehearsal.specs.Rehearsed.{refusedRehearsal, rehearsedAll, rehearseOf, Outright};
 use controller::run::run;
 use display::frame::paint;
 use state::panel::Panel;
@@ -18,7 +17,7 @@ pub struct Rehearsed {
 }
 
 fn refuse(number: u8, place: usize, registers: Registers) -> Rehearsed
-    ensures { λ r. ⌜ r ≡ refusedWith number place registers ⌝ }
+    ensures { λ r. ⌜ r ≡ refusedRehearsal number place registers ⌝ }
 {
     Rehearsed {
         number,
@@ -26,14 +25,6 @@ fn refuse(number: u8, place: usize, registers: Registers) -> Rehearsed
         pairs: 0,
         registers,
     }
-}
-
-// 8·L·R, the bytes of a frame.
-fn frame_size(panel: Panel) -> usize
-    requires { ⌜ (panel .lines ≤ 16) × (panel .columns * panel .width ≤ 640) ⌝ }
-    ensures { λ r. ⌜ r ≡ 8 * panel .lines * rowBytes (panel .columns) (panel .width) ⌝ }
-{
-    8 * panel.lines * ((panel.columns * panel.width + 7) / 8)
 }
 
 // The stream in the room, run on the memory from these registers; the frame is then the picture. A refusal changes nothing.
@@ -55,7 +46,7 @@ pub fn rehearse(
     if !valid {
         return refuse(1, 0, registers);
     }
-    let size = frame_size(panel);
+    let size = panel.frame_size();
     let fits = (memory.len() == 65536) & (rom.len() == 1024) & (frame.len() == size);
     if !fits {
         return refuse(2, 0, registers);

@@ -1,4 +1,5 @@
 pub mod LeftOver
+pub mod Sizes
 pub mod Tables
 pub mod Valid
 pub mod Widths

@@ -1,4 +1,5 @@
 pub mod Types
 pub mod State
+pub mod Sizes
 pub mod Attribute
 pub mod Combination

@@ -22,9 +22,9 @@ use Rattle.book.proofs.Verdicts.{Accepted, checked-is, checked-invalid, checked
 use Rattle.writer.specs.declared.written.Written.{Written}
 use Rattle.writer.specs.Stream.{opening, bodyPairs, streamOf, countOf}
 use Rattle.writer.specs.Written.{Wrote, wrote, wroteAll, writeScreen, writeOf}
-use Rattle.writer.specs.Put.{Put, operationsIn, Sound}
+use Rattle.writer.specs.Put.{PairsPut, operationsIn, WritableBody}
 use Rattle.writer.proofs.Lengths.{opening-length}
-use Rattle.writer.proofs.Places.{cells-few}
+use Rattle.state.proofs.Sizes.{cells-few}
 use Rattle.writer.proofs.Puts.{put-both, put-length}
 
 module _ (p : Panel) (book : List ℕ) (number : ℕ) {r : Checked} (h : r ≡ checkedOf p book number) where
@@ -66,9 +66,9 @@ module _ (p : Panel) (book : List ℕ) (number : ℕ) {r : Checked} (h : r ≡ c
       pub write-12 : length room < 2 * total → wrote 12 total 0 room ≡ writeOf p book number room
       write-12 l = by-room true (lt-ltb (length room) (2 * total) l)
 
-      module _ (l : 2 * total ≤ length room) {b : List ℕ} {w : ℕ} (x : Put room 0 (opening p) b w) where
+      module _ (l : 2 * total ≤ length room) {b : List ℕ} {w : ℕ} (x : PairsPut room 0 (opening p) b w) where
         -- behind the opening there is room for the body
-        pub body-ready : Sound p book (r .start) (r .end) w b
+        pub body-ready : WritableBody p book (r .start) (r .end) w b
         body-ready =
             record {
               panel = accepted .panel;
@@ -77,7 +77,7 @@ module _ (p : Panel) (book : List ℕ) (number : ℕ) {r : Checked} (h : r ≡ c
               fits = omega (arith, x .ends, opening-length p, put-length x, accepted .pairs);
             }
 
-        pub write-0 : {c : List ℕ} {e : ℕ} → Put b w (bodyPairs p (operationsIn (operationsFrom (r .end - r .start) p book (r .start) (r .end)))) c e
+        pub write-0 : {c : List ℕ} {e : ℕ} → PairsPut b w (bodyPairs p (operationsIn (operationsFrom (r .end - r .start) p book (r .start) (r .end)))) c e
             → wrote 0 0 total c ≡ writeOf p book number room
         unfolding streamOf
         write-0 {c} y =

@@ -9,7 +9,7 @@ use Rattle.state.specs.declared.panel.Panel.{Panel}
 use Rattle.state.specs.State.{validPanel}
 use Rattle.book.specs.Range.{TextRange}
 use Rattle.writer.specs.Homes.{graphicHome, textHome, glyphHome}
-use Rattle.writer.proofs.Places.{cells-few}
+use Rattle.state.proofs.Sizes.{cells-few}
 
 module _ (p : Panel) (v : validPanel p ≡ true) where
   pub graphic-below-text : graphicHome + 8 * p .lines * p .columns ≤ textHome p

@@ -16,17 +16,17 @@ use Rattle.book.specs.Screen.{screen, operationsFrom}
 use Rattle.book.proofs.Finding.{found-operation, pairs-placed}
 use Rattle.book.proofs.Walking.{Step, step-on, step-end, step-never-faulty}
 use Rattle.writer.specs.Stream.{operationPairs, bodyPairs}
-use Rattle.writer.specs.Put.{Put, RoomFor, operationsIn, Ready, Sound}
+use Rattle.writer.specs.Put.{PairsPut, RoomFor, operationsIn, Roomy, WritableBody}
 use Rattle.writer.proofs.Lengths.{operation-length}
 use Rattle.writer.proofs.Puts.{put-length, Putting, putting, put-on, put-over}
 
 -- an operation by what it was found to be
 module _ (p : Panel) (book : List ℕ) {at : ℕ} {a : List ℕ} {o x : Placed} (e : o ≡ x) where
-  pub ready-as : Ready p (InRange p book o) (placedPairs o) at a → Ready p (InRange p book x) (placedPairs x) at a
-  ready-as k = subst (λ (y : Placed). Ready p (InRange p book y) (placedPairs y) at a) e k
+  pub ready-as : Roomy p (InRange p book o) (placedPairs o) at a → Roomy p (InRange p book x) (placedPairs x) at a
+  ready-as k = subst (λ (y : Placed). Roomy p (InRange p book y) (placedPairs y) at a) e k
 
-  pub put-operation-as : {b : List ℕ} {w : ℕ} → Put a at (operationPairs p (operationOf book x)) b w → Put a at (operationPairs p (operationOf book o)) b w
-  put-operation-as {b} {w} k = subst (λ (y : Placed). Put a at (operationPairs p (operationOf book y)) b w) (sym e) k
+  pub put-operation-as : {b : List ℕ} {w : ℕ} → PairsPut a at (operationPairs p (operationOf book x)) b w → PairsPut a at (operationPairs p (operationOf book o)) b w
+  put-operation-as {b} {w} k = subst (λ (y : Placed). PairsPut a at (operationPairs p (operationOf book y)) b w) (sym e) k
 
 -- with the operations from byte next on still to be put at w
 pub record Writing (p : Panel) (book : List ℕ) (start end at : ℕ) (a b : List ℕ) (next w : ℕ) : Type 0 where
@@ -37,7 +37,7 @@ pub record Writing (p : Panel) (book : List ℕ) (start end at : ℕ) (a b : Lis
   pub fits : RoomFor (bodyCount rest) w b
 
 module _ (p : Panel) (book : List ℕ) (start end at : ℕ) {a : List ℕ} where
-  pub writing : Sound p book start end at a → Writing p book start end at a a start at
+  pub writing : WritableBody p book start end at a → Writing p book start end at a a start at
   writing s =
       let os : List Operation = operationsIn (operationsFrom (end - start) p book start end) in
       let e : s .os ≡ os = sym (ap operationsIn (s .operations)) in
@@ -61,10 +61,10 @@ module _ (p : Panel) (book : List ℕ) (start end at : ℕ) {a : List ℕ} where
       unfolding bodyCount
       count-is = ap bodyCount (step .is) ∙ ap (λ (m : ℕ). m + bodyCount (step .rest)) (pairs-placed p book o (writing-found .range))
 
-      pub writing-ready : Ready p (InRange p book o) (placedPairs o) w b
+      pub writing-ready : Roomy p (InRange p book o) (placedPairs o) w b
       writing-ready = record { valid = k .valid; range = writing-found .range; fits = omega (arith, k .fits, count-is) }
 
-      pub writing-on : {c : List ℕ} {v : ℕ} → Put b w (operationPairs p (operationOf book o)) c v → Writing p book start end at a c behind v
+      pub writing-on : {c : List ℕ} {v : ℕ} → PairsPut b w (operationPairs p (operationOf book o)) c v → Writing p book start end at a c behind v
       unfolding bodyPairs
       writing-on x =
           record {
@@ -78,7 +78,7 @@ module _ (p : Panel) (book : List ℕ) (start end at : ℕ) {a : List ℕ} where
                 (arith, k .fits, count-is, x .ends, put-length x, operation-length p book o (writing-found .range), pairs-placed p book o (writing-found .range));
           }
 
-    pub writing-ends : f ≡ End → Put a at (bodyPairs p (operationsIn (operationsFrom (end - start) p book start end))) b w
+    pub writing-ends : f ≡ End → PairsPut a at (bodyPairs p (operationsIn (operationsFrom (end - start) p book start end))) b w
     unfolding bodyPairs
     writing-ends e =
         put-over

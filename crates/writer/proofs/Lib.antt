@@ -1,7 +1,6 @@
 pub mod Lengths
 pub mod Puts
 pub mod Loops
-pub mod Places
 pub mod Apart
 pub mod Bodies
 pub mod Answers

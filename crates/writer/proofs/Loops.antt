@@ -9,7 +9,7 @@ use lib.Seq.{drop-cons}
 use Rattle.state.specs.declared.panel.Panel.{Panel}
 use Rattle.controller.specs.Access.{Pair}
 use Rattle.writer.specs.Stream.{datum, block, graphicHome, rowBlocks}
-use Rattle.writer.specs.Put.{Put, RoomFor}
+use Rattle.writer.specs.Put.{PairsPut, RoomFor}
 use Rattle.writer.proofs.Puts.{Putting, putting, put-on, put-over}
 
 -- before turn i of n, of k pairs each, with the pairs of `left i` still to be put
@@ -28,7 +28,7 @@ module _ {a b : List ℕ} {at n k : ℕ} {left : ℕ → List Pair} {i w : ℕ} 
   pub loop-room : i < n → RoomFor (n * k) at a → RoomFor k w b
   loop-room h r = omega (arith, mul-le-mul-right k h, loop-kept, x .paced)
 
-  pub loop-on : {c : List ℕ} {e : ℕ} {qs : List Pair} → i < n → left i ≡ qs ++ left (i + 1) → length qs ≡ k → Put b w qs c e → Looping a at n k left c (i + 1) e
+  pub loop-on : {c : List ℕ} {e : ℕ} {qs : List Pair} → i < n → left i ≡ qs ++ left (i + 1) → length qs ≡ k → PairsPut b w qs c e → Looping a at n k left c (i + 1) e
   loop-on h l m y =
       record {
         upto = omega arith;
@@ -36,7 +36,7 @@ module _ {a b : List ℕ} {at n k : ℕ} {left : ℕ → List Pair} {i w : ℕ} 
         puts = put-on (rw l at (x .puts)) y;
       }
 
-  pub loop-over : {ps : List Pair} → n ≤ i → left n ≡ [] → left 0 ≡ ps → Put a at ps b w
+  pub loop-over : {ps : List Pair} → n ≤ i → left n ≡ [] → left 0 ≡ ps → PairsPut a at ps b w
   loop-over h l m =
       let e : i ≡ n = omega (arith, x .upto) in
       put-over (rw (m, e, l) at (x .puts))

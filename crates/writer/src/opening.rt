@@ -4,7 +4,7 @@ ghost use mathlib.Core.Bool.{true};
 ghost use Prim.Native.Nat.{_+_, _*_};
 ghost use Rattle.state.specs.State.{validPanel};
 ghost use Rattle.writer.specs.Stream.{planePairs, setUp, opening};
-ghost use Rattle.writer.specs.Put.{Put, RoomFor};
+ghost use Rattle.writer.specs.Put.{PairsPut, RoomFor};
 use super::homes::Homes;
 use super::homes::text_home;
 use super::put::put_code;
@@ -17,7 +17,7 @@ use state::panel::Panel;
 fn put_planes(room: &mut [u8], at: usize, panel: Panel) -> usize
     requires { ⌜ validPanel panel ≡ true ⌝ }
     requires { ⌜ RoomFor 12 at (now room) ⌝ }
-    ensures { λ r. ⌜ Put (now (room .entry)) at (planePairs panel) (now (room .exit)) r ⌝ }
+    ensures { λ r. ⌜ PairsPut (now (room .entry)) at (planePairs panel) (now (room .exit)) r ⌝ }
 {
     let columns = panel.columns as u8;
     let a = put_word(room, at, text_home(panel), 0x40);
@@ -30,7 +30,7 @@ fn put_planes(room: &mut [u8], at: usize, panel: Panel) -> usize
 fn put_set_up(room: &mut [u8], at: usize, panel: Panel) -> usize
     requires { ⌜ validPanel panel ≡ true ⌝ }
     requires { ⌜ RoomFor 18 at (now room) ⌝ }
-    ensures { λ r. ⌜ Put (now (room .entry)) at (setUp panel) (now (room .exit)) r ⌝ }
+    ensures { λ r. ⌜ PairsPut (now (room .entry)) at (setUp panel) (now (room .exit)) r ⌝ }
 {
     let a = put_code(room, at, 0xb2);
     let b = put_planes(room, a, panel);
@@ -42,7 +42,7 @@ fn put_set_up(room: &mut [u8], at: usize, panel: Panel) -> usize
 pub(crate) fn put_opening(room: &mut [u8], at: usize, panel: Panel) -> usize
     requires { ⌜ validPanel panel ≡ true ⌝ }
     requires { ⌜ RoomFor (1057 + 9 * (panel .columns * panel .lines)) at (now room) ⌝ }
-    ensures { λ r. ⌜ Put (now (room .entry)) at (opening panel) (now (room .exit)) r ⌝ }
+    ensures { λ r. ⌜ PairsPut (now (room .entry)) at (opening panel) (now (room .exit)) r ⌝ }
 {
     let cells = panel.lines * panel.columns;
     let a = put_set_up(room, at, panel);

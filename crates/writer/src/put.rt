@@ -3,11 +3,11 @@ ghost use mathlib.Core.List.{[], _∷_, map};
 ghost use Prim.Native.Nat.{_%_, _/_, _+_, _≤_};
 ghost use lib.ListN.{length, take, drop, replicate};
 ghost use Rattle.writer.specs.Stream.{datum, code, block};
-ghost use Rattle.writer.specs.Put.{Put, RoomFor};
+ghost use Rattle.writer.specs.Put.{PairsPut, RoomFor};
 
 fn put_datum(room: &mut [u8], at: usize, byte: u8) -> usize
     requires { ⌜ RoomFor 1 at (now room) ⌝ }
-    ensures { λ r. ⌜ Put (now (room .entry)) at (datum byte ∷ []) (now (room .exit)) r ⌝ }
+    ensures { λ r. ⌜ PairsPut (now (room .entry)) at (datum byte ∷ []) (now (room .exit)) r ⌝ }
 {
     room[at] = 0;
     room[at + 1] = byte;
@@ -16,7 +16,7 @@ fn put_datum(room: &mut [u8], at: usize, byte: u8) -> usize
 
 pub(crate) fn put_code(room: &mut [u8], at: usize, byte: u8) -> usize
     requires { ⌜ RoomFor 1 at (now room) ⌝ }
-    ensures { λ r. ⌜ Put (now (room .entry)) at (code byte ∷ []) (now (room .exit)) r ⌝ }
+    ensures { λ r. ⌜ PairsPut (now (room .entry)) at (code byte ∷ []) (now (room .exit)) r ⌝ }
 {
     room[at] = 1;
     room[at + 1] = byte;
@@ -26,7 +26,7 @@ pub(crate) fn put_code(room: &mut [u8], at: usize, byte: u8) -> usize
 // A command with its two data.
 pub(crate) fn put_two(room: &mut [u8], at: usize, first: u8, second: u8, byte: u8) -> usize
     requires { ⌜ RoomFor 3 at (now room) ⌝ }
-    ensures { λ r. ⌜ Put (now (room .entry)) at (datum first ∷ datum second ∷ code byte ∷ []) (now (room .exit)) r ⌝ }
+    ensures { λ r. ⌜ PairsPut (now (room .entry)) at (datum first ∷ datum second ∷ code byte ∷ []) (now (room .exit)) r ⌝ }
 {
     let a = put_datum(room, at, first);
     let b = put_datum(room, a, second);
@@ -36,7 +36,7 @@ pub(crate) fn put_two(room: &mut [u8], at: usize, first: u8, second: u8, byte: u
 // A command with a word, low byte first.
 pub(crate) fn put_word(room: &mut [u8], at: usize, word: u16, byte: u8) -> usize
     requires { ⌜ RoomFor 3 at (now room) ⌝ }
-    ensures { λ r. ⌜ Put (now (room .entry)) at (datum (word % 256) ∷ datum (word / 256) ∷ code byte ∷ []) (now (room .exit)) r ⌝ }
+    ensures { λ r. ⌜ PairsPut (now (room .entry)) at (datum (word % 256) ∷ datum (word / 256) ∷ code byte ∷ []) (now (room .exit)) r ⌝ }
 {
     put_two(room, at, (word % 256) as u8, (word / 256) as u8, byte)
 }
@@ -45,7 +45,7 @@ pub(crate) fn put_word(room: &mut [u8], at: usize, word: u16, byte: u8) -> usize
 fn put_bytes(room: &mut [u8], at: usize, book: &[u8], from: usize, n: usize) -> usize
     requires { ⌜ RoomFor n at (now room) ⌝ }
     requires { ⌜ from + n ≤ length (now book) ⌝ }
-    ensures { λ r. ⌜ Put (now (room .entry)) at (map datum (take n (drop from (now (book .entry))))) (now (room .exit)) r ⌝ }
+    ensures { λ r. ⌜ PairsPut (now (room .entry)) at (map datum (take n (drop from (now (book .entry))))) (now (room .exit)) r ⌝ }
 {
     let mut i: usize = 0;
     let mut w = at;
@@ -59,7 +59,7 @@ fn put_bytes(room: &mut [u8], at: usize, book: &[u8], from: usize, n: usize) -> 
 // One byte n times as data.
 fn put_fill(room: &mut [u8], at: usize, byte: u8, n: usize) -> usize
     requires { ⌜ RoomFor n at (now room) ⌝ }
-    ensures { λ r. ⌜ Put (now (room .entry)) at (map datum (replicate n byte)) (now (room .exit)) r ⌝ }
+    ensures { λ r. ⌜ PairsPut (now (room .entry)) at (map datum (replicate n byte)) (now (room .exit)) r ⌝ }
 {
     let mut i: usize = 0;
     let mut w = at;
@@ -81,7 +81,7 @@ pub(crate) fn put_block(
 ) -> usize
     requires { ⌜ RoomFor (n + 5) at (now room) ⌝ }
     requires { ⌜ from + n ≤ length (now book) ⌝ }
-    ensures { λ r. ⌜ Put (now (room .entry)) at (block address (take n (drop from (now (book .entry))))) (now (room .exit)) r ⌝ }
+    ensures { λ r. ⌜ PairsPut (now (room .entry)) at (block address (take n (drop from (now (book .entry))))) (now (room .exit)) r ⌝ }
 {
     let a = put_word(room, at, address, 0x24);
     let b = put_code(room, a, 0xb0);
@@ -92,7 +92,7 @@ pub(crate) fn put_block(
 // One byte n times to an address and on.
 pub(crate) fn put_run(room: &mut [u8], at: usize, address: u16, byte: u8, n: usize) -> usize
     requires { ⌜ RoomFor (n + 5) at (now room) ⌝ }
-    ensures { λ r. ⌜ Put (now (room .entry)) at (block address (replicate n byte)) (now (room .exit)) r ⌝ }
+    ensures { λ r. ⌜ PairsPut (now (room .entry)) at (block address (replicate n byte)) (now (room .exit)) r ⌝ }
 {
     let a = put_word(room, at, address, 0x24);
     let b = put_code(room, a, 0xb0);

@@ -10,7 +10,7 @@ ghost use Rattle.book.specs.Pairs.{placedPairs};
 ghost use Rattle.book.specs.Range.{InRange, TextRange, RectangleRange, DotRange, GlyphRange};
 ghost use Rattle.book.specs.Screen.{operationsFrom};
 ghost use Rattle.writer.specs.Stream.{datum, code, block, glyphHome, rowBlocks, combinationCode, operationPairs, bodyPairs};
-ghost use Rattle.writer.specs.Put.{Put, RoomFor, operationsIn, Ready, Sound};
+ghost use Rattle.writer.specs.Put.{PairsPut, RoomFor, operationsIn, Roomy, WritableBody};
 use super::homes::Homes;
 use super::homes::text_home;
 use super::put::put_block;
@@ -35,8 +35,8 @@ fn put_text(
     from: usize,
     n: usize,
 ) -> usize
-    requires { ⌜ Ready panel (TextRange panel (now book) line column from n) (n + 5) at (now room) ⌝ }
-    ensures { λ r. ⌜ Put (now (room .entry)) at (operationPairs panel (text line column (take n (drop from (now (book .entry)))))) (now (room .exit)) r ⌝ }
+    requires { ⌜ Roomy panel (TextRange panel (now book) line column from n) (n + 5) at (now room) ⌝ }
+    ensures { λ r. ⌜ PairsPut (now (room .entry)) at (operationPairs panel (text line column (take n (drop from (now (book .entry)))))) (now (room .exit)) r ⌝ }
 {
     let cell = line * panel.columns + column;
     put_block(room, at, text_home(panel) + cell as u16, book, from, n)
@@ -53,8 +53,8 @@ fn put_rows(
     width: usize,
     value: u8,
 ) -> usize
-    requires { ⌜ Ready panel (RectangleRange panel top column height width) (height * (width + 5)) at (now room) ⌝ }
-    ensures { λ r. ⌜ Put (now (room .entry)) at (rowBlocks panel top column height width value) (now (room .exit)) r ⌝ }
+    requires { ⌜ Roomy panel (RectangleRange panel top column height width) (height * (width + 5)) at (now room) ⌝ }
+    ensures { λ r. ⌜ PairsPut (now (room .entry)) at (rowBlocks panel top column height width value) (now (room .exit)) r ⌝ }
 {
     let mut i: usize = 0;
     let mut w = at;
@@ -79,8 +79,8 @@ fn dot_code(panel: Panel, x: usize, on: bool) -> u8
 
 // Operation 3.
 fn put_dot(room: &mut [u8], at: usize, panel: Panel, x: usize, y: usize, on: bool) -> usize
-    requires { ⌜ Ready panel (DotRange panel x y) 4 at (now room) ⌝ }
-    ensures { λ r. ⌜ Put (now (room .entry)) at (operationPairs panel (dot x y on)) (now (room .exit)) r ⌝ }
+    requires { ⌜ Roomy panel (DotRange panel x y) 4 at (now room) ⌝ }
+    ensures { λ r. ⌜ PairsPut (now (room .entry)) at (operationPairs panel (dot x y on)) (now (room .exit)) r ⌝ }
 {
     let byte = y * panel.columns + x / panel.width;
     let a = put_word(room, at, Homes::GRAPHIC + byte as u16, 0x24);
@@ -91,7 +91,7 @@ fn put_dot(room: &mut [u8], at: usize, panel: Panel, x: usize, y: usize, on: boo
 fn put_glyph(room: &mut [u8], at: usize, k: u8, book: &[u8], from: usize) -> usize
     requires { ⌜ GlyphRange (now book) k from ⌝ }
     requires { ⌜ RoomFor 13 at (now room) ⌝ }
-    ensures { λ r. ⌜ Put (now (room .entry)) at (block (glyphHome + 8 * (k - 0x80)) (take 8 (drop from (now (book .entry))))) (now (room .exit)) r ⌝ }
+    ensures { λ r. ⌜ PairsPut (now (room .entry)) at (block (glyphHome + 8 * (k - 0x80)) (take 8 (drop from (now (book .entry))))) (now (room .exit)) r ⌝ }
 {
     let address = Homes::GLYPHS + 8 * (k - 0x80) as u16;
     put_block(room, at, address, book, from, 8)
@@ -108,7 +108,7 @@ fn cursor_code(blink: bool) -> u8
 fn put_cursor(room: &mut [u8], at: usize, line: u8, column: u8, height: u8, blink: bool) -> usize
     requires { ⌜ (1 ≤ height) × (height ≤ 8) ⌝ }
     requires { ⌜ RoomFor 5 at (now room) ⌝ }
-    ensures { λ r. ⌜ Put (now (room .entry)) at (datum column ∷ datum line ∷ code 0x21 ∷ code (0xa0 + (height - 1)) ∷ code (cond blink 0x9f 0x9e) ∷ []) (now (room .exit)) r ⌝ }
+    ensures { λ r. ⌜ PairsPut (now (room .entry)) at (datum column ∷ datum line ∷ code 0x21 ∷ code (0xa0 + (height - 1)) ∷ code (cond blink 0x9f 0x9e) ∷ []) (now (room .exit)) r ⌝ }
 {
     let a = put_two(room, at, column, line, 0x21);
     let b = put_code(room, a, 0xa0 + (height - 1));
@@ -129,8 +129,8 @@ fn combination_code(combination: Combination) -> u8
 
 // The pairs of an operation that was found in the book.
 fn put_operation(room: &mut [u8], at: usize, panel: Panel, book: &[u8], placed: Placed) -> usize
-    requires { ⌜ Ready panel (InRange panel (now book) placed) (placedPairs placed) at (now room) ⌝ }
-    ensures { λ r. ⌜ Put (now (room .entry)) at (operationPairs panel (operationOf (now (book .entry)) placed)) (now (room .exit)) r ⌝ }
+    requires { ⌜ Roomy panel (InRange panel (now book) placed) (placedPairs placed) at (now room) ⌝ }
+    ensures { λ r. ⌜ PairsPut (now (room .entry)) at (operationPairs panel (operationOf (now (book .entry)) placed)) (now (room .exit)) r ⌝ }
 {
     match placed {
         Placed::Text(line, column, from, n) => put_text(
@@ -171,8 +171,8 @@ pub(crate) fn put_body(
     start: usize,
     end: usize,
 ) -> usize
-    requires { ⌜ Sound panel (now book) start end at (now room) ⌝ }
-    ensures { λ r. ⌜ Put (now (room .entry)) at (bodyPairs panel (operationsIn (operationsFrom (end - start) panel (now (book .entry)) start end))) (now (room .exit)) r ⌝ }
+    requires { ⌜ WritableBody panel (now book) start end at (now room) ⌝ }
+    ensures { λ r. ⌜ PairsPut (now (room .entry)) at (bodyPairs panel (operationsIn (operationsFrom (end - start) panel (now (book .entry)) start end))) (now (room .exit)) r ⌝ }
 {
     let mut next = start;
     let mut w = at;

@@ -3,7 +3,7 @@ use mathlib.Core.Path.{ap, sym, _∙_}
 use mathlib.Core.Bool.{Bool, cond}
 use Prim.Native.Nat.{_*_}
 use native.Mathlib.Omega.{arith}
-use Rattle.picture.proofs.Places.{cells-few}
+use Rattle.state.proofs.Sizes.{cells-few}
 use borrow.Author.Needs.{needs}
 use Rattle.draw.proofs.cells.Statement.{statement}
 use Rattle.draw.proofs.cells.Tie as tie

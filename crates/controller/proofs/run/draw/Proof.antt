@@ -1,6 +1,5 @@
 -- `draw` meets its contract, code by code.
 use mathlib.Core.Path.{refl}
-use native.Mathlib.Omega.{arith}
 use Rattle.controller.specs.Types.{Or, Exor, And, Attribute}
 use Rattle.controller.proofs.Tells.{undrawn-draws, draws-mode, draws-show, draws-height}
 use borrow.Author.Needs.{needs}

@@ -7,14 +7,14 @@ use mathlib.Core.Path.{refl, sym, _∙_}
 use Rattle.ground.proofs.Tests.{both-left}
 use Rattle.controller.specs.Ready.{standing}
 use Rattle.controller.proofs.Blocks.{block-moves}
-use Rattle.controller.proofs.Goings.{Going, going, going-runs, going-on, going-stops, going-ends, going-block, going-kept, going-pushes, going-states, going-tells, going-draws, going-leaves, going-reads, going-fetches, going-ticks, room-left, room-still}
+use Rattle.controller.proofs.Pairwise.{Running, running, running-ends, going-runs, going-on, going-stops, going-block, going-kept, going-pushes, going-states, going-tells, going-draws, going-leaves, going-reads, going-fetches, going-ticks, room-left, room-still}
 use Rattle.controller.proofs.Laws.{sounds}
 use Rattle.controller.proofs.Readied.{runs-lengths}
 use Rattle.controller.proofs.run.pairs.Statement.{statement}
 use Rattle.controller.proofs.run.pairs.Tie as tie
 
 abbrev Inv-loop : tie.InvT-loop
-Inv-loop panel mem₀ rom log total answers₀ display₀ bus₀ given₀ i₀ mem answers display bus given i = Going panel rom log total (standing (record { display = display₀; bus = bus₀ }) mem₀ answers₀ given₀) (standing (record { display = display; bus = bus }) mem answers given) i
+Inv-loop panel mem₀ rom log total answers₀ display₀ bus₀ given₀ i₀ mem answers display bus given i = Running panel rom log total (standing (record { display = display₀; bus = bus₀ }) mem₀ answers₀ given₀) (standing (record { display = display; bus = bus }) mem answers given) i
 
 abbrev μ-loop : tie.MeasureT-loop
 μ-loop panel mem₀ rom log total answers₀ display₀ bus₀ given₀ i₀ mem answers display bus given i = total - i
@@ -22,7 +22,7 @@ abbrev μ-loop : tie.MeasureT-loop
 loop-holds : tie.Need-loop-holds Inv-loop μ-loop
 loop-holds c =
     let s = c .before .before .before .before .before .before in
-    going (s .args .panel) (s .args .rom .now) (s .args .log .now) (s .args .total) (standing (s .args .registers) (s .args .mem .now) (s .args .answers .now) 0)
+    running (s .args .panel) (s .args .rom .now) (s .args .log .now) (s .args .total) (standing (s .args .registers) (s .args .mem .now) (s .args .answers .now) 0)
     (sounds (s .args .registers) (s .args .mem .now) (s .pre .0 .state) (runs-lengths (s .pre .0) .0))
 
 mul-kind : tie.Need-mul-kind Inv-loop μ-loop
@@ -44,7 +44,7 @@ is-write-requires : tie.Need-is-write-requires Inv-loop μ-loop
 is-write-requires c κs = search needs
 
 block-requires : tie.Need-block-requires Inv-loop μ-loop
-block-requires c κs = (c .before .before .before .before .before .before .loop .inv .sound .memory, (c .before .before .before .before .before .before .before .before .before .before .before .before .before .pre .1, c .before .before .before .before .before .before .loop .inv .inside))
+block-requires c κs = (c .before .before .before .before .before .before .loop .inv .goes-on .sound .memory, (c .before .before .before .before .before .before .before .before .before .before .before .before .before .pre .1, c .before .before .before .before .before .before .loop .inv .goes-on .inside))
 
 sub-passed : tie.Need-sub-passed Inv-loop μ-loop
 sub-passed c = omega (arith, c .before .before .block .ensures .reaches)
@@ -80,7 +80,7 @@ slice-write-answers : tie.Need-slice-write-answers Inv-loop μ-loop
 slice-write-answers c = let h = room-left (c .before .before .before .before .before .before .before .before .before .loop .inv) 3 (c .before .if3 .taken) in omega (arith, h)
 
 add-given : tie.Need-add-given Inv-loop μ-loop
-add-given c = let h = room-left (c .before .before .before .before .before .before .before .before .before .loop .inv) 3 (c .before .if3 .taken) in omega (arith, h, c .before .before .before .before .before .before .before .before .before .loop .inv .room, c .before .before .before .before .before .before .before .before .before .before .before .before .before .before .before .before .good)
+add-given c = let h = room-left (c .before .before .before .before .before .before .before .before .before .loop .inv) 3 (c .before .if3 .taken) in omega (arith, h, c .before .before .before .before .before .before .before .before .before .loop .inv .goes-on .room, c .before .before .before .before .before .before .before .before .before .before .before .before .before .before .before .before .good)
 
 add-i-2 : tie.Need-add-i-2 Inv-loop μ-loop
 add-i-2 c = omega (arith, c .before .before .before .before .before .before .before .before .loop-test .taken, c .before .before .before .before .before .before .before .before .before .before .before .before .before .before .before .before .pre .1, c .before .before .before .before .before .before .before .before .before .before .before .before .before .before .before .before .good)
@@ -92,7 +92,7 @@ loop-again-3 : tie.Need-loop-again-3 Inv-loop μ-loop
 loop-again-3 c = going-states (c .before .before .before .before .before .before .before .before .before .loop .inv) (c .before .before .before .before .before .before .before .before .loop-test .taken) (c .before .before .before .before .before .before .before .before .before .before .before .before .before .before .before .before .pre .1) (c .before .if3 .taken) (c .bus-status .ensures)
 
 tell-requires : tie.Need-tell-requires Inv-loop μ-loop
-tell-requires c κs = c .before .before .before .before .before .before .before .before .before .loop .inv .sound .memory
+tell-requires c κs = c .before .before .before .before .before .before .before .before .before .loop .inv .goes-on .sound .memory
 
 add-i-3 : tie.Need-add-i-3 Inv-loop μ-loop
 add-i-3 c = omega (arith, c .before .before .before .before .before .before .before .before .before .before .before .before .before .loop-test .taken, c .before .before .before .before .before .before .before .before .before .before .before .before .before .before .before .before .before .before .before .before .before .pre .1, c .before .before .before .before .before .before .before .before .before .before .before .before .before .before .before .before .before .before .before .before .before .good)
@@ -131,7 +131,7 @@ slice-write-answers-2 : tie.Need-slice-write-answers-2 Inv-loop μ-loop
 slice-write-answers-2 c = let h = room-still (c .before .before .before .before .before .before .before .before .before .before .before .before .before .before .before .before .before .loop .inv) 2 (c .before .before .before .before .before .before .before .before .before .before .before .is-off .result) (c .if7 .taken) in omega (arith, h)
 
 add-given-2 : tie.Need-add-given-2 Inv-loop μ-loop
-add-given-2 c = let h = room-still (c .before .before .before .before .before .before .before .before .before .before .before .before .before .before .before .before .before .loop .inv) 2 (c .before .before .before .before .before .before .before .before .before .before .before .is-off .result) (c .if7 .taken) in omega (arith, h, c .before .before .before .before .before .before .before .before .before .before .before .before .before .before .before .before .before .loop .inv .room, c .before .before .before .before .before .before .before .before .before .before .before .before .before .before .before .before .before .before .before .before .before .before .before .before .good)
+add-given-2 c = let h = room-still (c .before .before .before .before .before .before .before .before .before .before .before .before .before .before .before .before .before .loop .inv) 2 (c .before .before .before .before .before .before .before .before .before .before .before .is-off .result) (c .if7 .taken) in omega (arith, h, c .before .before .before .before .before .before .before .before .before .before .before .before .before .before .before .before .before .loop .inv .goes-on .room, c .before .before .before .before .before .before .before .before .before .before .before .before .before .before .before .before .before .before .before .before .before .before .before .before .good)
 
 add-i-6 : tie.Need-add-i-6 Inv-loop μ-loop
 add-i-6 c = omega (arith, c .before .before .before .before .before .before .before .before .before .before .before .before .before .before .before .before .loop-test .taken, c .before .before .before .before .before .before .before .before .before .before .before .before .before .before .before .before .before .before .before .before .before .before .before .before .pre .1, c .before .before .before .before .before .before .before .before .before .before .before .before .before .before .before .before .before .before .before .before .before .before .before .before .good)
@@ -146,13 +146,13 @@ is-read-requires : tie.Need-is-read-requires Inv-loop μ-loop
 is-read-requires c κs = search needs
 
 fetch-requires : tie.Need-fetch-requires Inv-loop μ-loop
-fetch-requires c κs = going-kept (c .before .before .before .before .before .before .before .before .before .before .before .before .before .before .before .before .before .before .before .before .loop .inv) (c .before .before .before .before .before .before .before .before .before .before .tell .ensures .keeps (c .before .before .before .before .before .before .before .if4 .left)) .sound .memory
+fetch-requires c κs = going-kept (c .before .before .before .before .before .before .before .before .before .before .before .before .before .before .before .before .before .before .before .before .loop .inv) (c .before .before .before .before .before .before .before .before .before .before .tell .ensures .keeps (c .before .before .before .before .before .before .before .if4 .left)) .goes-on .sound .memory
 
 slice-write-answers-3 : tie.Need-slice-write-answers-3 Inv-loop μ-loop
 slice-write-answers-3 c = let h = room-still (c .before .before .before .before .before .before .before .before .before .before .before .before .before .before .before .before .before .before .before .before .before .loop .inv) 2 (c .before .before .before .is-read .result) (c .before .before .if8 .taken) in omega (arith, h)
 
 add-given-3 : tie.Need-add-given-3 Inv-loop μ-loop
-add-given-3 c = let h = room-still (c .before .before .before .before .before .before .before .before .before .before .before .before .before .before .before .before .before .before .before .before .before .loop .inv) 2 (c .before .before .before .is-read .result) (c .before .before .if8 .taken) in omega (arith, h, c .before .before .before .before .before .before .before .before .before .before .before .before .before .before .before .before .before .before .before .before .before .loop .inv .room, c .before .before .before .before .before .before .before .before .before .before .before .before .before .before .before .before .before .before .before .before .before .before .before .before .before .before .before .before .good)
+add-given-3 c = let h = room-still (c .before .before .before .before .before .before .before .before .before .before .before .before .before .before .before .before .before .before .before .before .before .loop .inv) 2 (c .before .before .before .is-read .result) (c .before .before .if8 .taken) in omega (arith, h, c .before .before .before .before .before .before .before .before .before .before .before .before .before .before .before .before .before .before .before .before .before .loop .inv .goes-on .room, c .before .before .before .before .before .before .before .before .before .before .before .before .before .before .before .before .before .before .before .before .before .before .before .before .before .before .before .before .good)
 
 add-i-7 : tie.Need-add-i-7 Inv-loop μ-loop
 add-i-7 c = omega (arith, c .before .before .before .before .before .before .before .before .before .before .before .before .before .before .before .before .before .before .before .before .loop-test .taken, c .before .before .before .before .before .before .before .before .before .before .before .before .before .before .before .before .before .before .before .before .before .before .before .before .before .before .before .before .pre .1, c .before .before .before .before .before .before .before .before .before .before .before .before .before .before .before .before .before .before .before .before .before .before .before .before .before .before .before .before .good)
@@ -178,10 +178,10 @@ turn-requires c κs =
     going-runs (going-kept (c .before .before .before .before .before .before .before .before .before .before .before .before .before .before .before .before .before .before .before .before .before .before .loop .inv) (c .before .before .before .before .before .before .before .before .before .before .before .before .tell .ensures .keeps (c .before .before .before .before .before .before .before .before .before .if4 .left))) _ _ refl (s .pre .0 .panel) (runs-lengths (s .pre .0) .1)
 
 same-length : tie.Need-same-length Inv-loop μ-loop
-same-length c = omega (arith, c .before .before .before .before .before .before .before .before .before .before .before .before .before .before .before .before .before .before .before .before .before .before .before .before .before .before .before .before .before .before .before .loop .inv .sound .memory, runs-lengths (c .before .before .before .before .before .before .before .before .before .before .before .before .before .before .before .before .before .before .before .before .before .before .before .before .before .before .before .before .before .before .before .before .before .before .before .before .before .before .pre .0) .0)
+same-length c = omega (arith, c .before .before .before .before .before .before .before .before .before .before .before .before .before .before .before .before .before .before .before .before .before .before .before .before .before .before .before .before .before .before .before .loop .inv .goes-on .sound .memory, runs-lengths (c .before .before .before .before .before .before .before .before .before .before .before .before .before .before .before .before .before .before .before .before .before .before .before .before .before .before .before .before .before .before .before .before .before .before .before .before .before .before .pre .0) .0)
 
 same-length-2 : tie.Need-same-length-2 Inv-loop μ-loop
-same-length-2 c = omega (arith, c .before .before .before .before .before .before .before .before .before .before .before .before .before .before .before .before .before .before .before .before .before .before .before .before .before .before .before .before .before .before .before .loop .inv .room)
+same-length-2 c = omega (arith, c .before .before .before .before .before .before .before .before .before .before .before .before .before .before .before .before .before .before .before .before .before .before .before .before .before .before .before .before .before .before .before .loop .inv .goes-on .room)
 
 returns : tie.Need-returns Inv-loop μ-loop
 returns c = going-stops (going-kept (c .before .before .before .before .before .before .before .before .before .before .before .before .before .before .before .before .before .before .before .before .before .before .before .before .before .before .before .before .before .before .before .loop .inv) (c .before .before .before .before .before .before .before .before .before .before .before .before .before .before .before .before .before .before .before .before .before .tell .ensures .keeps (c .before .before .before .before .before .before .before .before .before .before .before .before .before .before .before .before .before .before .if4 .left))) (c .before .before .before .before .before .before .before .before .before .before .before .before .before .before .before .before .before .before .before .before .before .before .before .before .before .before .before .before .before .before .loop-test .taken) (c .before .before .before .before .before .before .before .before .before .before .before .before .before .before .before .before .before .before .before .before .before .before .before .before .before .before .before .before .before .before .before .before .before .before .before .before .before .before .pre .1) (c .before .before .before .before .before .before .before .before .turn .ensures) (c .if10 .taken)
@@ -196,13 +196,13 @@ loop-again-10 : tie.Need-loop-again-10 Inv-loop μ-loop
 loop-again-10 c = going-on (going-kept (c .before .before .before .before .before .before .before .before .before .before .before .before .before .before .before .before .before .before .before .before .before .before .before .before .before .before .before .before .before .before .before .loop .inv) (c .before .before .before .before .before .before .before .before .before .before .before .before .before .before .before .before .before .before .before .before .before .tell .ensures .keeps (c .before .before .before .before .before .before .before .before .before .before .before .before .before .before .before .before .before .before .if4 .left))) (c .before .before .before .before .before .before .before .before .before .before .before .before .before .before .before .before .before .before .before .before .before .before .before .before .before .before .before .before .before .before .loop-test .taken) (c .before .before .before .before .before .before .before .before .before .before .before .before .before .before .before .before .before .before .before .before .before .before .before .before .before .before .before .before .before .before .before .before .before .before .before .before .before .before .pre .1) (c .before .before .before .before .before .before .before .before .turn .ensures) (c .if10 .left)
 
 same-length-3 : tie.Need-same-length-3 Inv-loop μ-loop
-same-length-3 c = c .before .loop .inv .sound .memory ∙ sym (runs-lengths (c .before .before .before .before .before .before .before .before .pre .0) .0)
+same-length-3 c = c .before .loop .inv .goes-on .sound .memory ∙ sym (runs-lengths (c .before .before .before .before .before .before .before .before .pre .0) .0)
 
 same-length-4 : tie.Need-same-length-4 Inv-loop μ-loop
-same-length-4 c = c .before .loop .inv .room
+same-length-4 c = c .before .loop .inv .goes-on .room
 
 returns-2 : tie.Need-returns-2 Inv-loop μ-loop
-returns-2 c = going-ends (c .before .loop .inv) (c .loop-test .left)
+returns-2 c = running-ends (c .before .loop .inv) (c .loop-test .left)
 
 pub pairs-spec : {M : Type 1} → statement M
 pairs-spec =

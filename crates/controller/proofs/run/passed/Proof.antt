@@ -1,6 +1,6 @@
 -- `passed` meets its contract: a count of any size moves the pointer by its rest.
 use borrow.Author.Needs.{needs}
-use mathlib.Core.Path.{_≡_, sym, _∙_}
+use mathlib.Core.Path.{_≡_}
 use Prim.Native.Nat.{ℕ, _+_, _%_}
 use native.Mathlib.Omega.{arith}
 use Rattle.controller.specs.Types.{Bus}

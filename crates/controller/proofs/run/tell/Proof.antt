@@ -1,5 +1,5 @@
 -- `tell` meets its contract, code by code.
-use mathlib.Core.Path.{refl, ap}
+use mathlib.Core.Path.{ap}
 use native.Mathlib.Omega.{arith}
 use Rattle.codes.specs.Command.{decodeOf}
 use Rattle.controller.specs.Types.{Write, Read, Up, Down, Stay}

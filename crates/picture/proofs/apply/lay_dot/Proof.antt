@@ -1,11 +1,9 @@
 -- `lay_dot` meets its contract: one bit of one byte.
-use mathlib.Core.Path.{_≡_, ap, _∙_}
-use Prim.Native.Nat.{ℕ, _%_}
-use native.Mathlib.Nat.{mod-eq-of-lt}
-use lib.ListN.{set, getD}
-use Rattle.ground.specs.Bytes.{withBit}
-use Rattle.book.specs.Operation.{dotByte, dotBit}
-use Rattle.picture.proofs.Places.{graphic-few, some-width, rest-few, bit-few, dot-place}
+use mathlib.Core.Path.{ap}
+use lib.ListN.{set}
+use Rattle.book.specs.Operation.{dotByte}
+use Rattle.state.proofs.Sizes.{graphic-few, some-width, rest-few}
+use Rattle.book.proofs.Places.{bit-few, dot-place}
 use borrow.Author.Needs.{needs}
 use native.Mathlib.Omega.{arith}
 use Rattle.picture.proofs.apply.lay_dot.Statement.{statement}
@@ -46,11 +44,8 @@ same-length c = search needs
 
 returns : tie.Need-returns
 returns c =
-    let s = c .before .before .before .before .before .before .before in
-    let a = s .args in
-    let byte : ℕ = getD (a .graphic .now) (dotByte (a .panel) (a .x) (a .y)) 0 in
-    let bit : dotBit (a .panel) (a .x) % 8 ≡ dotBit (a .panel) (a .x) = mod-eq-of-lt (bit-few (s .args .panel) (s .pre .valid) (s .args .x)) in
-    ap (set (a .graphic .now) (dotByte (a .panel) (a .x) (a .y))) (c .with-bit .ensures ∙ ap (λ (k : ℕ). withBit byte k (a .on)) bit)
+    let a = c .before .before .before .before .before .before .before .args in
+    ap (set (a .graphic .now) (dotByte (a .panel) (a .x) (a .y))) (c .with-bit .ensures)
 
 pub lay-dot-spec : {M : Type 1} → statement M
 lay-dot-spec =

@@ -1,6 +1,7 @@
 -- `lay_rectangle` meets its contract: row after row.
 use Prim.Native.Nat.{_-_}
-use Rattle.picture.proofs.Places.{graphic-few, row-place}
+use Rattle.state.proofs.Sizes.{graphic-few}
+use Rattle.book.proofs.Places.{row-place}
 use Rattle.picture.proofs.Storing.{Filling, filling, filling-on, filling-over}
 use Rattle.state.proofs.Valid.{panelled}
 use native.Mathlib.Omega.{arith}

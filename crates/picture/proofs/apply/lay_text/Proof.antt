@@ -1,5 +1,6 @@
 -- `lay_text` meets its contract: the codes stored from their cell on.
-use Rattle.picture.proofs.Places.{cells-few, text-place}
+use Rattle.state.proofs.Sizes.{cells-few}
+use Rattle.book.proofs.Places.{text-place}
 use borrow.Author.Needs.{needs}
 use native.Mathlib.Omega.{arith}
 use Rattle.picture.proofs.apply.lay_text.Statement.{statement}

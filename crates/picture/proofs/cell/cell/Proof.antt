@@ -1,5 +1,6 @@
 -- `cell` meets its contract: the cursor over both layers.
-use Rattle.state.proofs.Valid.{panelled}
+use mathlib.Core.Path.{_∙_}
+use Rattle.state.proofs.Sizes.{full-dots}
 use Rattle.picture.proofs.Cells.{cell-cursor, cell-shown}
 use borrow.Author.Needs.{needs}
 use Rattle.picture.proofs.cell.cell.Statement.{statement}
@@ -12,10 +13,10 @@ covers-requires : tie.Need-covers-requires
 covers-requires c κs = search needs
 
 full-requires : tie.Need-full-requires
-full-requires c κs = let s = c .before .before .before .before .before .before .before in panelled (s .args .panel) (s .pre .0 .valid) .width
+full-requires c κs = search needs
 
 returns : tie.Need-returns
-returns c = let a = c .before .before .before .before .before .before .before .before .args in cell-cursor (a .panel) (a .rom .now) (a .graphic .now) (a .codes .now) (a .glyphs .now) (a .style) (a .phase) (a .row) (a .column) (c .before .before .before .lit .ensures) (c .before .before .covers .ensures) (c .before .if1 .taken) (c .full .ensures)
+returns c = let a = c .before .before .before .before .before .before .before .before .args in cell-cursor (a .panel) (a .rom .now) (a .graphic .now) (a .codes .now) (a .glyphs .now) (a .style) (a .phase) (a .row) (a .column) (c .before .before .before .lit .ensures) (c .before .before .covers .ensures) (c .before .if1 .taken) (c .full .ensures ∙ full-dots (a .panel) (c .before .before .before .before .before .before .before .before .pre .0 .valid))
 
 text-dots-requires : tie.Need-text-dots-requires
 text-dots-requires c κs = let s = c .before .before .before .before .before .before .before in let k = s .pre .0 in (record { valid = k .valid; range = s .pre .1; sized = k .sized .codes }, (k .characters, k .sized .glyphs))

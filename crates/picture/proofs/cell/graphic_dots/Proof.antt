@@ -1,22 +1,23 @@
 -- `graphic_dots` meets its contract: the graphic byte, masked.
-use Rattle.state.proofs.Valid.{panelled}
 use Rattle.picture.specs.Layers.{planeGraphic}
-use Rattle.picture.proofs.Places.{graphic-few, graphic-place}
+use Rattle.state.proofs.Sizes.{graphic-few}
+use Rattle.picture.proofs.Places.{graphic-place}
 use native.Mathlib.Omega.{arith}
+use borrow.Author.Needs.{needs}
 use Rattle.picture.proofs.cell.graphic_dots.Statement.{statement}
 use Rattle.picture.proofs.cell.graphic_dots.Tie as tie
 
 mul-at : tie.Need-mul-at
-mul-at c = let s = c .before .before in omega (arith, graphic-place (s .args .panel) (s .pre .valid) (s .pre .range), graphic-few (s .args .panel) (s .pre .valid))
+mul-at c = let s = c .before .before in omega (arith, graphic-place (s .args .panel) (s .pre .range), graphic-few (s .args .panel) (s .pre .valid))
 
 add-at : tie.Need-add-at
-add-at c = let s = c .before .before in omega (arith, graphic-place (s .args .panel) (s .pre .valid) (s .pre .range), graphic-few (s .args .panel) (s .pre .valid))
+add-at c = let s = c .before .before in omega (arith, graphic-place (s .args .panel) (s .pre .range), graphic-few (s .args .panel) (s .pre .valid))
 
 shared-slice-read-low : tie.Need-shared-slice-read-low
-shared-slice-read-low c = let s = c .before .before .before in omega (arith, graphic-place (s .args .panel) (s .pre .valid) (s .pre .range), s .pre .sized)
+shared-slice-read-low c = let s = c .before .before .before in omega (arith, graphic-place (s .args .panel) (s .pre .range), s .pre .sized)
 
 low-requires : tie.Need-low-requires
-low-requires c κs = let s = c .before .before .before in panelled (s .args .panel) (s .pre .valid) .width
+low-requires c κs = search needs
 
 returns : tie.Need-returns
 unfolding planeGraphic

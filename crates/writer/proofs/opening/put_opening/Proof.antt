@@ -4,7 +4,7 @@ use native.Mathlib.Nat.{mul-comm}
 use Rattle.writer.specs.Stream.{graphicHome, setUp}
 use Rattle.writer.proofs.Lengths.{run-length}
 use Rattle.writer.proofs.Puts.{put-opening, put-block-as}
-use Rattle.writer.proofs.Places.{cells-few}
+use Rattle.state.proofs.Sizes.{cells-few}
 use borrow.Author.Needs.{needs}
 use native.Mathlib.Omega.{arith}
 use Rattle.writer.proofs.opening.put_opening.Statement.{statement}

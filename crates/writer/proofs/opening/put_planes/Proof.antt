@@ -1,6 +1,6 @@
 -- `put_planes` meets its contract: four commands with their data.
 use Rattle.writer.proofs.Puts.{put-both, put-word-as}
-use Rattle.writer.proofs.Places.{columns-few}
+use Rattle.state.proofs.Sizes.{columns-few}
 use borrow.Author.Needs.{needs}
 use native.Mathlib.Omega.{arith}
 use Rattle.writer.proofs.opening.put_planes.Statement.{statement}

@@ -3,7 +3,8 @@ use mathlib.Core.Path.{ap, sym}
 use mathlib.Core.Bool.{Bool, cond}
 use Prim.Native.Nat.{_+_}
 use Rattle.book.specs.Operation.{dotBit}
-use Rattle.writer.proofs.Places.{some-width, rest-few, bit-few, rest-small}
+use Rattle.state.proofs.Sizes.{some-width, rest-few}
+use Rattle.book.proofs.Places.{bit-few}
 use native.Mathlib.Omega.{arith}
 use Rattle.writer.proofs.stream.dot_code.Statement.{statement}
 use Rattle.writer.proofs.stream.dot_code.Tie as tie
@@ -18,13 +19,13 @@ sub-from-right-2 : tie.Need-sub-from-right-2
 sub-from-right-2 c = rest-few (c .before .before .args .panel) (c .before .before .pre) (c .before .before .args .x)
 
 cast-bit : tie.Need-cast-bit
-cast-bit c = let s = c .before .before in omega (arith, bit-few (s .args .panel) (s .pre) (s .args .x), rest-small (s .args .panel) (s .pre) (s .args .x))
+cast-bit c = let s = c .before .before in omega (arith, bit-few (s .args .panel) (s .pre) (s .args .x))
 
 add-result : tie.Need-add-result
-add-result c = let s = c .before .before .before in omega (arith, bit-few (s .args .panel) (s .pre) (s .args .x), rest-small (s .args .panel) (s .pre) (s .args .x))
+add-result c = let s = c .before .before .before in omega (arith, bit-few (s .args .panel) (s .pre) (s .args .x))
 
 add-result-2 : tie.Need-add-result-2
-add-result-2 c = let s = c .before .before .before in omega (arith, bit-few (s .args .panel) (s .pre) (s .args .x), rest-small (s .args .panel) (s .pre) (s .args .x))
+add-result-2 c = let s = c .before .before .before in omega (arith, bit-few (s .args .panel) (s .pre) (s .args .x))
 
 returns : tie.Need-returns
 returns c = let a = c .before .before .before .args in ap (λ (t : Bool). cond t 0xf8 0xf0 + dotBit (a .panel) (a .x)) (sym (c .if1 .taken))

@@ -1,26 +1,27 @@
 -- `put_dot` meets its contract: the pointer, then the code.
 use Rattle.writer.specs.Stream.{pointTo, operationPairs}
 use Rattle.writer.proofs.Puts.{put-both, put-as}
-use Rattle.writer.proofs.Places.{dot-place, some-width}
+use Rattle.state.proofs.Sizes.{some-width, graphic-few}
+use Rattle.book.proofs.Places.{dot-place}
 use borrow.Author.Needs.{needs}
 use native.Mathlib.Omega.{arith}
 use Rattle.writer.proofs.stream.put_dot.Statement.{statement}
 use Rattle.writer.proofs.stream.put_dot.Tie as tie
 
 mul-byte : tie.Need-mul-byte
-mul-byte c = let s = c .before .before in omega (arith, dot-place (s .args .panel) (s .pre .valid) (s .pre .range))
+mul-byte c = let s = c .before .before in omega (arith, dot-place (s .args .panel) (s .pre .valid) (s .pre .range), graphic-few (s .args .panel) (s .pre .valid))
 
 div-byte : tie.Need-div-byte
 div-byte c = some-width (c .before .before .before .args .panel) (c .before .before .before .pre .valid)
 
 add-byte : tie.Need-add-byte
-add-byte c = let s = c .before .before .before in omega (arith, dot-place (s .args .panel) (s .pre .valid) (s .pre .range))
+add-byte c = let s = c .before .before .before in omega (arith, dot-place (s .args .panel) (s .pre .valid) (s .pre .range), graphic-few (s .args .panel) (s .pre .valid))
 
 cast-put-word : tie.Need-cast-put-word
-cast-put-word c = let s = c .before .before .before .before in omega (arith, dot-place (s .args .panel) (s .pre .valid) (s .pre .range))
+cast-put-word c = let s = c .before .before .before .before in omega (arith, dot-place (s .args .panel) (s .pre .valid) (s .pre .range), graphic-few (s .args .panel) (s .pre .valid))
 
 add-put-word : tie.Need-add-put-word
-add-put-word c = let s = c .before .before .before .before in omega (arith, dot-place (s .args .panel) (s .pre .valid) (s .pre .range))
+add-put-word c = let s = c .before .before .before .before in omega (arith, dot-place (s .args .panel) (s .pre .valid) (s .pre .range), graphic-few (s .args .panel) (s .pre .valid))
 
 put-word-requires : tie.Need-put-word-requires
 put-word-requires c κs = search needs

@@ -3,7 +3,8 @@ use Prim.Native.Nat.{_+_, _-_, _*_}
 use Rattle.writer.specs.Stream.{graphicHome}
 use Rattle.writer.proofs.Lengths.{run-length}
 use Rattle.writer.proofs.Loops.{Looping, looping, loop-kept, loop-room, loop-on, loop-over, rowsLeft, rows-next, rows-none, rows-all}
-use Rattle.writer.proofs.Places.{row-place, lines-few}
+use Rattle.state.proofs.Sizes.{lines-few, graphic-few}
+use Rattle.book.proofs.Places.{row-place}
 use native.Mathlib.Omega.{arith}
 use Rattle.writer.proofs.stream.put_rows.Statement.{statement}
 use Rattle.writer.proofs.stream.put_rows.Tie as tie
@@ -21,16 +22,16 @@ add-row : tie.Need-add-row Inv-loop μ-loop
 add-row c = let s = c .before .before .before in omega (arith, s .pre .range .down, lines-few (s .args .panel) (s .pre .valid))
 
 mul-row : tie.Need-mul-row Inv-loop μ-loop
-mul-row c = let s = c .before .before .before .before in omega (arith, row-place (s .args .panel) (s .pre .valid) (s .pre .range) (c .before .before .loop .i) (c .before .loop-test .taken))
+mul-row c = let s = c .before .before .before .before in omega (arith, row-place (s .args .panel) (s .pre .valid) (s .pre .range) (c .before .before .loop .i) (c .before .loop-test .taken), graphic-few (s .args .panel) (s .pre .valid))
 
 add-row-2 : tie.Need-add-row-2 Inv-loop μ-loop
-add-row-2 c = let s = c .before .before .before .before in omega (arith, row-place (s .args .panel) (s .pre .valid) (s .pre .range) (c .before .before .loop .i) (c .before .loop-test .taken))
+add-row-2 c = let s = c .before .before .before .before in omega (arith, row-place (s .args .panel) (s .pre .valid) (s .pre .range) (c .before .before .loop .i) (c .before .loop-test .taken), graphic-few (s .args .panel) (s .pre .valid))
 
 cast-put-run : tie.Need-cast-put-run Inv-loop μ-loop
-cast-put-run c = let s = c .before .before .before .before .before in omega (arith, row-place (s .args .panel) (s .pre .valid) (s .pre .range) (c .before .before .before .loop .i) (c .before .before .loop-test .taken))
+cast-put-run c = let s = c .before .before .before .before .before in omega (arith, row-place (s .args .panel) (s .pre .valid) (s .pre .range) (c .before .before .before .loop .i) (c .before .before .loop-test .taken), graphic-few (s .args .panel) (s .pre .valid))
 
 add-put-run : tie.Need-add-put-run Inv-loop μ-loop
-add-put-run c = let s = c .before .before .before .before .before in omega (arith, row-place (s .args .panel) (s .pre .valid) (s .pre .range) (c .before .before .before .loop .i) (c .before .before .loop-test .taken))
+add-put-run c = let s = c .before .before .before .before .before in omega (arith, row-place (s .args .panel) (s .pre .valid) (s .pre .range) (c .before .before .before .loop .i) (c .before .before .loop-test .taken), graphic-few (s .args .panel) (s .pre .valid))
 
 put-run-requires : tie.Need-put-run-requires Inv-loop μ-loop
 put-run-requires c κs = loop-room (c .before .before .before .loop .inv) (c .before .before .loop-test .taken) (c .before .before .before .before .before .pre .fits)

@@ -1,0 +1,25 @@
+-- `row_size` meets its contract: eighty cells of eight dots are few.
+use mathlib.Core.Path.{sym, _∙_}
+use native.Mathlib.Omega.{arith}
+use borrow.Author.Needs.{needs}
+use Rattle.state.proofs.Sizes.{a-size, no-size, dots-few}
+use Rattle.state.proofs.panel.Panel.row_size.Statement.{statement}
+use Rattle.state.proofs.panel.Panel.row_size.Tie as tie
+
+valid-requires : tie.Need-valid-requires
+valid-requires c κs = search needs
+
+mul-result : tie.Need-mul-result
+mul-result c = omega (arith, dots-few (c .before .before .before .args .self) (sym (c .before .before .valid .ensures) ∙ c .before .if1 .taken))
+
+add-result : tie.Need-add-result
+add-result c = omega (arith, dots-few (c .before .before .before .args .self) (sym (c .before .before .valid .ensures) ∙ c .before .if1 .taken))
+
+returns : tie.Need-returns
+returns c = sym (a-size (c .before .before .before .args .self) (sym (c .before .before .valid .ensures) ∙ c .before .if1 .taken) _)
+
+returns-2 : tie.Need-returns-2
+returns-2 c = sym (no-size (c .before .before .args .self) (sym (c .before .valid .ensures) ∙ c .if1 .left) _)
+
+pub row-size-spec : {M : Type 1} → statement M
+row-size-spec = tie.close (tie.spec valid-requires mul-result add-result returns returns-2)
