@@ -10,6 +10,8 @@ use Rattle.ground.proofs.Tests.{both-left, both-right, settled}
 use Rattle.ground.specs.Packing.{rowBytes}
 use Rattle.display.specs.Types.{Panel, Display, Registers, Reply, Seen}
 use Rattle.state.specs.State.{validPanel, validDisplay, validBus, validRegisters}
+use Rattle.state.specs.Sizes.{rowSize, frameSize, validSize}
+use Rattle.state.proofs.Sizes.{is-size}
 use Rattle.state.proofs.Valid.{panelled, displaying}
 use Rattle.display.specs.Displayed.{displayedByte}
 use Rattle.display.specs.Frame.{frameOf, lentLengths, frameFits, replyOf, Painted, painted, paintOf, seenOf, displayedOf}
@@ -77,30 +79,37 @@ module _ (p : Panel) (r : Registers) (mem rom frame : List ℕ) {a b : Bool} (i 
   pub painting-1 : (a && b) ≡ false → painted (replyOf 1) frame ≡ paintOf p r mem rom frame
   painting-1 e = painting false e
 
-  module _ (e : (a && b) ≡ true) {R : ℕ} (k : R ≡ rowBytes (p .columns) (p .width)) where
-    fits-is : (v : Bool) → (lentLengths mem rom && eqb (length frame) (8 * p .lines * R)) ≡ v → (lentLengths mem rom && frameFits p frame) ≡ v
-    fits-is v h = sym (λ q. lentLengths mem rom && eqb (length frame) (8 * p .lines * k q)) ∙ h
+  module _ (e : (a && b) ≡ true) {S : ℕ} (m : S ≡ validSize p (frameSize p)) where
+    panel-valid : validPanel p ≡ true
+    panel-valid = sym i ∙ both-left a b e
 
-    pub painting-2 : (lentLengths mem rom && eqb (length frame) (8 * p .lines * R)) ≡ false → painted (replyOf 2) frame ≡ paintOf p r mem rom frame
+    pub row-is : {R : ℕ} → R ≡ validSize p (rowSize p) → R ≡ rowBytes (p .columns) (p .width)
+    row-is k = is-size p panel-valid k
+
+    fits-is : (v : Bool) → (lentLengths mem rom && eqb (length frame) S) ≡ v → (lentLengths mem rom && frameFits p frame) ≡ v
+    fits-is v h = sym (λ q. lentLengths mem rom && eqb (length frame) (is-size p panel-valid m q)) ∙ h
+
+    pub painting-2 : (lentLengths mem rom && eqb (length frame) S) ≡ false → painted (replyOf 2) frame ≡ paintOf p r mem rom frame
     painting-2 h =
         sym (ap (λ (t : Bool). cond t (painted (replyOf 0) (frameOf p (r .display) mem rom)) (painted (replyOf 2) frame)) (fits-is false h))
         ∙ painting true e
 
-    module _ (h : (lentLengths mem rom && eqb (length frame) (8 * p .lines * R)) ≡ true) where
+    module _ (h : (lentLengths mem rom && eqb (length frame) S) ≡ true) where
       pub painting-0 : {f : List ℕ} → f ≡ frameOf p (r .display) mem rom → painted (replyOf 0) f ≡ paintOf p r mem rom frame
-      painting-0 m =
-          ap (painted (replyOf 0)) m
+      painting-0 n =
+          ap (painted (replyOf 0)) n
           ∙ sym (ap (λ (t : Bool). cond t (painted (replyOf 0) (frameOf p (r .display) mem rom)) (painted (replyOf 2) frame)) (fits-is true h))
           ∙ painting true e
 
       pub painting-drawable : Drawable p (r .display) mem rom
       painting-drawable =
-          drawable p (r .display) mem rom (sym i ∙ both-left a b e)
+          drawable p (r .display) mem rom panel-valid
           (both-left _ (validBus (r .bus)) (sym j ∙ both-right a b e))
-          (both-left _ (eqb (length frame) (8 * p .lines * R)) h)
+          (both-left _ (eqb (length frame) S) h)
 
-      pub painting-length : length frame ≡ 8 * p .lines * R
-      painting-length = eqb-true (length frame) (8 * p .lines * R) (both-right (lentLengths mem rom) _ h)
+      pub painting-length : {R : ℕ} → R ≡ validSize p (rowSize p) → length frame ≡ 8 * p .lines * R
+      painting-length k =
+          eqb-true (length frame) S (both-right (lentLengths mem rom) _ h) ∙ is-size p panel-valid m ∙ ap (λ (n : ℕ). 8 * p .lines * n) (sym (row-is k))
 
 -- two replies that meet a promise are equal
 pub displayed-settled : {x y : Seen} (p : Panel) (d : Display) (mem rom : List ℕ) (r c : ℕ)

@@ -1,6 +1,6 @@
 // The frame: every dot row, each into its own stretch.
 ghost use mathlib.Core.Path.{_≡_};
-ghost use Prim.Native.Nat.{_*_, _≤_};
+ghost use Prim.Native.Nat.{_*_};
 ghost use lib.ListN.{length};
 ghost use Rattle.ground.specs.Packing.{rowBytes};
 ghost use Rattle.display.specs.Frame.{frameOf, painted, paintOf};
@@ -10,14 +10,6 @@ use state::panel::Panel;
 use state::registers::Display;
 use state::registers::Registers;
 use state::reply::Reply;
-
-// R, the bytes of a row.
-fn row_bytes(columns: usize, width: usize) -> usize
-    requires { ⌜ (columns ≤ 80) × (width ≤ 8) ⌝ }
-    ensures { λ r. ⌜ r ≡ rowBytes columns width ⌝ }
-{
-    (columns * width + 7) / 8
-}
 
 // The rows of a valid state, row r from r times R.
 fn paint_rows(
@@ -48,8 +40,8 @@ pub fn paint(panel: Panel, registers: Registers, mem: &[u8], rom: &[u8], frame: 
 {
     let valid = panel.valid() & registers.valid();
     if valid {
-        let bytes = row_bytes(panel.columns, panel.width);
-        let size = 8 * panel.lines * bytes;
+        let bytes = panel.row_size();
+        let size = panel.frame_size();
         let fits = (mem.len() == 65536) & (rom.len() == 1024) & (frame.len() == size);
         if fits {
             let display = registers.display;
