@@ -1,4 +1,4 @@
--- A displayed byte has 0 above its w bits, and so has a cell's.
+-- The layers have 0 above their w bits, and so has a cell's byte.
 use mathlib.Core.List.{List}
 use mathlib.Core.Bool.{_&&_, not}
 use mathlib.Core.Logic.{_⊎_, ⊎-elim}
@@ -11,6 +11,7 @@ use Rattle.display.specs.Types.{Panel, Display}
 use Rattle.state.specs.Combination.{isAttribute}
 use Rattle.display.specs.Displayed.{glyphDots, textDots, graphicDots, displayedByte, cursorLit, cursorCovers, cellByte}
 use Rattle.display.specs.Drawable.{Drawable}
+use Rattle.display.specs.Layers.{layersAt}
 
 pub wide : {p : Panel} {d : Display} {mem rom : List ℕ} → Drawable p d mem rom → (6 ≤ p .width) × (p .width ≤ 8)
 wide k = ⊎-elim (λ e. omega arith) (λ e. omega arith) (k .width)
@@ -38,6 +39,10 @@ module _ (p : Panel) (d : Display) (mem rom : List ℕ) (r c : ℕ) where
       cond-lt (p .width) (d .bits .text) _ _
       (cond-lt (p .width) (d .bits .graphic) _ _ (combined-lt (p .width) (d .combination) _ _ text-lt graphic-lt) text-lt)
       graphic-lt
+
+  -- all three layers
+  pub layers-lt : (layersAt p d mem rom r c .text < 2 ^ p .width) × (layersAt p d mem rom r c .graphic < 2 ^ p .width) × (layersAt p d mem rom r c .shown < 2 ^ p .width)
+  layers-lt = (text-lt, graphic-lt, displayed-lt)
 
   pub cell-lt : cellByte p d mem rom r c < 2 ^ p .width
   unfolding cellByte

@@ -8,13 +8,12 @@ use lib.ListN.{length}
 use borrow.Author.Tests.{eqb-true}
 use Rattle.ground.proofs.Tests.{both-left, both-right, settled}
 use Rattle.ground.specs.Packing.{rowBytes}
-use Rattle.display.specs.Types.{Panel, Display, Registers, Reply, Seen}
+use Rattle.display.specs.Types.{Panel, Display, Registers, Reply}
 use Rattle.state.specs.State.{validPanel, validDisplay, validBus, validRegisters}
 use Rattle.state.specs.Sizes.{rowSize, frameSize, validSize}
 use Rattle.state.proofs.Sizes.{is-size}
 use Rattle.state.proofs.Valid.{panelled, displaying}
-use Rattle.display.specs.Displayed.{displayedByte}
-use Rattle.display.specs.Frame.{frameOf, lentLengths, frameFits, replyOf, Painted, painted, paintOf, seenOf, displayedOf}
+use Rattle.display.specs.Frame.{frameOf, lentLengths, frameFits, replyOf, Painted, painted, paintOf}
 use Rattle.display.specs.Drawable.{Drawable}
 
 pub drawable : (p : Panel) (d : Display) (mem rom : List ℕ) → validPanel p ≡ true → validDisplay d ≡ true → lentLengths mem rom ≡ true
@@ -31,39 +30,6 @@ drawable p d mem rom i j l =
       memory = eqb-true (length mem) 65536 (both-left _ (eqb (length rom) 1024) l);
       characters = eqb-true (length rom) 1024 (both-right (eqb (length mem) 65536) _ l);
     }
-
--- a displayed byte asked for by itself
-module _ (p : Panel) (d : Display) (mem rom : List ℕ) (r c : ℕ) {a b : Bool} (i : a ≡ validPanel p) (j : b ≡ validDisplay d) where
-  asked : (v : Bool) → (a && b) ≡ v
-      → cond v (cond (lentLengths mem rom) (seenOf 0 (displayedByte p d mem rom r c)) (seenOf 2 0)) (seenOf 1 0) ≡ displayedOf p d mem rom r c
-  unfolding displayedOf
-  asked v e =
-      sym
-      (ap (λ (t : Bool). cond t (cond (lentLengths mem rom) (seenOf 0 (displayedByte p d mem rom r c)) (seenOf 2 0)) (seenOf 1 0))
-      (sym (λ k. i k && j k) ∙ e))
-
-  pub asked-1 : (a && b) ≡ false → seenOf 1 0 ≡ displayedOf p d mem rom r c
-  asked-1 e = asked false e
-
-  pub asked-2 : (a && b) ≡ true → lentLengths mem rom ≡ false → seenOf 2 0 ≡ displayedOf p d mem rom r c
-  asked-2 e l =
-      sym (ap (λ (t : Bool). cond t (seenOf 0 (displayedByte p d mem rom r c)) (seenOf 2 0)) l) ∙ asked true e
-
-  pub asked-0 : (a && b) ≡ true → lentLengths mem rom ≡ true → {n : ℕ} → n ≡ displayedByte p d mem rom r c
-      → seenOf 0 n ≡ displayedOf p d mem rom r c
-  asked-0 e l h =
-      ap (seenOf 0) h
-      ∙ sym (ap (λ (t : Bool). cond t (seenOf 0 (displayedByte p d mem rom r c)) (seenOf 2 0)) l) ∙ asked true e
-
-  pub asked-drawable : (a && b) ≡ true → lentLengths mem rom ≡ true → Drawable p d mem rom
-  asked-drawable e l = drawable p d mem rom (sym i ∙ both-left a b e) (sym j ∙ both-right a b e) l
-
--- past the tests it is the byte
-pub displayed-is : (p : Panel) (d : Display) (mem rom : List ℕ) (r c : ℕ) → validPanel p ≡ true → validDisplay d ≡ true → lentLengths mem rom ≡ true
-    → displayedOf p d mem rom r c ≡ seenOf 0 (displayedByte p d mem rom r c)
-unfolding displayedOf
-displayed-is p d mem rom r c i j l =
-    λ k. cond (i k && j k) (cond (l k) (seenOf 0 (displayedByte p d mem rom r c)) (seenOf 2 0)) (seenOf 1 0)
 
 -- a frame painted
 module _ (p : Panel) (r : Registers) (mem rom frame : List ℕ) {a b : Bool} (i : a ≡ validPanel p) (j : b ≡ validRegisters r) where
@@ -112,10 +78,6 @@ module _ (p : Panel) (r : Registers) (mem rom frame : List ℕ) {a b : Bool} (i 
           eqb-true (length frame) S (both-right (lentLengths mem rom) _ h) ∙ is-size p panel-valid m ∙ ap (λ (n : ℕ). 8 * p .lines * n) (sym (row-is k))
 
 -- two replies that meet a promise are equal
-pub displayed-settled : {x y : Seen} (p : Panel) (d : Display) (mem rom : List ℕ) (r c : ℕ)
-    → x ≡ displayedOf p d mem rom r c → y ≡ displayedOf p d mem rom r c → x ≡ y
-displayed-settled p d mem rom r c h k = settled h k
-
 pub paint-settled : {x y : Reply} {f g : List ℕ} (p : Panel) (r : Registers) (mem rom frame : List ℕ)
     → painted x f ≡ paintOf p r mem rom frame → painted y g ≡ paintOf p r mem rom frame → (x ≡ y) × (f ≡ g)
 paint-settled p r mem rom frame h k =

@@ -1,3 +1,4 @@
+pub mod Asked
 pub mod Bounds
 pub mod Cases
 pub mod Doors
@@ -5,3 +6,4 @@ pub mod Dots
 pub mod Painted
 pub mod Passes
 pub mod Plain
+pub mod Same

@@ -10,8 +10,8 @@ use native.Mathlib.Omega.{arith}
 use lib.Dec.{ltb, leb, eqb}
 use lib.Bits.{bitAnd, bitOr, and-zero-r, or-zero-l, or-zero-r, and-mask}
 use lib.Pow.{ones-sub-lt}
-use lib.ListN.{length, getD, take, drop, set, length-set, length-append}
-use lib.Seq.{getD-append-add, getD-drop, getD-set-same, getD-set-other, ext-getD, take-at}
+use lib.ListN.{length, getD, drop, set, length-set}
+use lib.Seq.{getD-append-add, getD-drop, getD-set-same, getD-set-other, ext-getD}
 use borrow.Author.Tests.{ne-eqb, ltb-true}
 use Rattle.ground.specs.Lists.{build}
 use Rattle.ground.proofs.Lists.{build-length, build-at, build-cong}
@@ -19,9 +19,9 @@ use Rattle.ground.specs.Packing.{rowBytes, rowFrom, packOf}
 use Rattle.ground.proofs.Filling.{Filled, none-yet, one-more}
 use Rattle.ground.proofs.Packs.{packed-by-rule}
 use Rattle.ground.proofs.Tests.{both-right}
-use Rattle.display.specs.Types.{Panel, Plane, Display, Combination, Or, Exor, And, Attribute, Manner, Normal, Reverse, Inhibit, Look}
+use Rattle.display.specs.Types.{Panel, Display, Combination, Or, Exor, And, Attribute, Manner, Normal, Reverse, Inhibit, Look}
 use Rattle.display.proofs.Bounds.{glyph-lt}
-use Rattle.display.proofs.Cases.{graphic-off, text-off, text-plain, text-attributed, cell-shown, cell-cursor}
+use Rattle.display.proofs.Cases.{graphic-on, graphic-off, text-off, text-plain, text-attributed, cell-shown, cell-cursor}
 use Rattle.display.specs.Displayed.{addressOf, attributeByte, mixed, glyphDots, textDots, graphicDots, displayedByte, cursorLit, cursorCovers, cellByte}
 use Rattle.state.specs.Attribute.{lookOf, shownAs, attributed}
 use Rattle.state.specs.Combination.{isAttribute}
@@ -160,29 +160,30 @@ module _ (w n : ℕ) (h : n < 2 ^ w) where
       two-ways (lookOf (a % 16 % 16) .blinks && not normal) (lookOf (a % 16 % 16) .shown)
       ∙ ap (λ (m : ℕ). cond (lookOf m .blinks && not normal) 0 (shownAs (lookOf m .shown) w n)) e
 
-module _ (p : Panel) (d : Display) (mem rom : List ℕ) (r : ℕ) {lit dark cells : List ℕ} {all start : ℕ}
+module _ (p : Panel) (d : Display) (mem rom : List ℕ) (r first : ℕ) (lit dark : List ℕ) {cells : List ℕ} {all start : ℕ}
     (i : lit ≡ build 16 (λ n. attributed (p .width) (d .phase) n (2 ^ p .width - 1)))
     (j : dark ≡ build 16 (λ n. attributed (p .width) (d .phase) n 0)) (e : all ≡ 2 ^ p .width - 1)
-    (s : start ≡ addressOf (d .graphic) (r / 8) 0) (k : cells ≡ build (length cells) (glyphDots p d mem rom r)) where
+    (s : start ≡ addressOf (d .graphic) (r / 8) first) (k : cells ≡ build (length cells) (λ j. glyphDots p d mem rom r (first + j))) where
   -- dots that are not more than all
   pub within : {n : ℕ} → n < length cells → getD cells n 0 ≤ all
-  within {n} h = rw (of-rule (glyphDots p d mem rom r) k h, e) (omega (arith, glyph-lt p d mem rom r n))
+  within {n} h = rw (of-rule (λ j. glyphDots p d mem rom r (first + j)) k h, e) (omega (arith, glyph-lt p d mem rom r (first + n)))
 
-  shaded-right : (c : ℕ) → c < length cells
-      → shadedAt lit dark all mem start cells c ≡ attributed (p .width) (d .phase) (attributeByte d mem (r / 8) c) (glyphDots p d mem rom r c)
+  shaded-right : (n : ℕ) → n < length cells
+      → shadedAt lit dark all mem start cells n ≡ attributed (p .width) (d .phase) (attributeByte d mem (r / 8) (first + n)) (glyphDots p d mem rom r (first + n))
   unfolding attributeByte
-  shaded-right c h =
+  shaded-right n h =
+      let c = first + n in
       let a = attributeByte d mem (r / 8) c in
       let w = p .width in
-      let at : getD mem ((start + c) % 65536) 0 ≡ a = ap (λ (m : ℕ). getD mem m 0) (omega (arith, s)) in
+      let at : getD mem ((start + n) % 65536) 0 ≡ a = ap (λ (m : ℕ). getD mem m 0) (omega (arith, s)) in
       let code : a % 16 < 16 = omega arith in
-      (λ q. shaded lit dark all (at q % 16) (of-rule (glyphDots p d mem rom r) k h q))
+      (λ q. shaded lit dark all (at q % 16) (of-rule (λ j. glyphDots p d mem rom r (first + j)) k h q))
       ∙ (λ q. bitOr (bitAnd (glyphDots p d mem rom r c) ((ap (λ (x : List ℕ). getD x (a % 16) 0) i ∙ build-at 16 _ (a % 16) 0 code) q))
       (bitAnd (e q - glyphDots p d mem rom r c) ((ap (λ (x : List ℕ). getD x (a % 16) 0) j ∙ build-at 16 _ (a % 16) 0 code) q)))
       ∙ two-rows w (glyphDots p d mem rom r c) (glyph-lt p d mem rom r c) (d .phase) a
 
   pub all-shaded : (l : List ℕ) → l ≡ build (length cells) (shadedAt lit dark all mem start cells)
-      → l ≡ build (length cells) (λ c. attributed (p .width) (d .phase) (attributeByte d mem (r / 8) c) (glyphDots p d mem rom r c))
+      → l ≡ build (length cells) (λ n. attributed (p .width) (d .phase) (attributeByte d mem (r / 8) (first + n)) (glyphDots p d mem rom r (first + n)))
   all-shaded l h = h ∙ build-cong (length cells) _ _ shaded-right
 
 -- one layer after the other, each as long as the last
@@ -193,21 +194,44 @@ pub same-count : (f g : ℕ → ℕ) (xs ys : List ℕ) {zs : List ℕ} {n : ℕ
 same-count f g xs ys {zs} {n} h e k = k ∙ ap (λ (m : ℕ). build m g) (ap length e ∙ build-length (length xs) f ∙ h)
 
 -- the text of a row: off, under attributes, or plain
-module _ (p : Panel) (d : Display) (mem rom : List ℕ) (r : ℕ) where
-  pub blank-text : (n : ℕ) {l : List ℕ} → not (d .bits .text) ≡ true → l ≡ build n (λ c. 0) → l ≡ build n (textDots p d mem rom r)
-  blank-text n e h = h ∙ build-cong n _ _ (λ c k. text-off p d mem rom r c e)
+module _ (p : Panel) (d : Display) (mem rom : List ℕ) (r first : ℕ) where
+  pub blank-text : (n : ℕ) {l : List ℕ} → not (d .bits .text) ≡ true → l ≡ build n (λ j. 0) → l ≡ build n (λ j. textDots p d mem rom r (first + j))
+  blank-text n e h = h ∙ build-cong n _ _ (λ j k. text-off p d mem rom r (first + j) e)
 
   pub plain-text : (n : ℕ) {b : Bool} {l : List ℕ} → not (d .bits .text) ≡ false → b ≡ isAttribute (d .combination)
-      → (b && d .bits .graphic) ≡ false → l ≡ build n (glyphDots p d mem rom r) → l ≡ build n (textDots p d mem rom r)
-  plain-text n e i f h = h ∙ build-cong n _ _ (λ c k. text-plain p d mem rom r c e i f refl)
+      → (b && d .bits .graphic) ≡ false → l ≡ build n (λ j. glyphDots p d mem rom r (first + j)) → l ≡ build n (λ j. textDots p d mem rom r (first + j))
+  plain-text n e i f h = h ∙ build-cong n _ _ (λ j k. text-plain p d mem rom r (first + j) e i f refl)
 
   pub shown-text : (xs ys : List ℕ) {b : Bool} {zs : List ℕ} → not (d .bits .text) ≡ false → b ≡ isAttribute (d .combination)
-      → (b && d .bits .graphic) ≡ true → ys ≡ build (length xs) (glyphDots p d mem rom r)
-      → zs ≡ build (length ys) (λ c. attributed (p .width) (d .phase) (attributeByte d mem (r / 8) c) (glyphDots p d mem rom r c))
-      → zs ≡ build (length xs) (textDots p d mem rom r)
+      → (b && d .bits .graphic) ≡ true → ys ≡ build (length xs) (λ j. glyphDots p d mem rom r (first + j))
+      → zs ≡ build (length ys) (λ j. attributed (p .width) (d .phase) (attributeByte d mem (r / 8) (first + j)) (glyphDots p d mem rom r (first + j)))
+      → zs ≡ build (length xs) (λ j. textDots p d mem rom r (first + j))
   shown-text xs ys e i f g h =
-      same-count (glyphDots p d mem rom r) _ xs ys refl g h
-      ∙ build-cong (length xs) _ _ (λ c k. text-attributed p d mem rom r c e i f refl refl refl)
+      same-count (λ j. glyphDots p d mem rom r (first + j)) _ xs ys refl g h
+      ∙ build-cong (length xs) _ _ (λ j k. text-attributed p d mem rom r (first + j) e i f refl refl refl)
+
+-- the text given out: the front of the cells
+pub front-of : (f : ℕ → ℕ) (n : ℕ) (xs text : List ℕ) {t : List ℕ} → xs ≡ build n f → length text ≤ n
+    → t ≡ build (length text) (λ j. getD xs j 0) → t ≡ build (length text) f
+front-of f n xs text e h k =
+    k ∙ build-cong (length text) _ f (λ j l. ap (λ (x : List ℕ). getD x j 0) e ∙ build-at n f j 0 (omega arith))
+
+-- the graphic given out: bytes from an address on, round, their low w bits
+abbrev pub bytesFrom : ℕ → List ℕ → ℕ → ℕ → ℕ
+bytesFrom w mem start n = getD mem ((start + n) % 65536) 0 % 2 ^ w
+
+module _ (p : Panel) (d : Display) (mem : List ℕ) (r first n : ℕ) {b : Bool} (i : b ≡ isAttribute (d .combination)) where
+  pub lit-graphic : {start : ℕ} {l : List ℕ} → (d .bits .graphic && not b) ≡ true → start ≡ addressOf (d .graphic) r first
+      → l ≡ build n (bytesFrom (p .width) mem start) → l ≡ build n (λ j. graphicDots p d mem r (first + j))
+  lit-graphic {start} e s h =
+      h
+      ∙ build-cong n _ _
+      (λ j k.
+      let at : (start + j) % 65536 ≡ addressOf (d .graphic) r (first + j) = omega (arith, s) in
+      graphic-on p d mem r (first + j) i e at refl refl)
+
+  pub blank-graphic : {l : List ℕ} → (d .bits .graphic && not b) ≡ false → l ≡ build n (λ j. 0) → l ≡ build n (λ j. graphicDots p d mem r (first + j))
+  blank-graphic e h = h ∙ build-cong n _ _ (λ j k. graphic-off p d mem r (first + j) i e)
 
 -- over plain values: graphic off, or attribute mode, and the text stands alone
 alone : (t g : Bool) (k : Combination) (x : ℕ) → (g && not (isAttribute k)) ≡ false → (not t ≡ true → 0 ≡ x) → x ≡ mixed t g k x 0
@@ -218,10 +242,11 @@ alone true true Attribute x e h = refl
 alone true false k x e h = refl
 alone false g k x e h = sym (h refl)
 
-pub text-alone : (p : Panel) (d : Display) (mem rom : List ℕ) (r : ℕ) {b : Bool} {l : List ℕ} → b ≡ isAttribute (d .combination)
-    → (d .bits .graphic && not b) ≡ false → l ≡ build (length l) (textDots p d mem rom r) → l ≡ build (length l) (displayedByte p d mem rom r)
+pub text-alone : (p : Panel) (d : Display) (mem rom : List ℕ) (r first : ℕ) {b : Bool} {l : List ℕ} → b ≡ isAttribute (d .combination)
+    → (d .bits .graphic && not b) ≡ false → l ≡ build (length l) (λ j. textDots p d mem rom r (first + j))
+    → l ≡ build (length l) (λ j. displayedByte p d mem rom r (first + j))
 unfolding displayedByte
-text-alone p d mem rom r {b} {l} i e h = h ∙ build-cong (length l) (textDots p d mem rom r) (displayedByte p d mem rom r) (λ c k. each c)
+text-alone p d mem rom r first {b} {l} i e h = h ∙ build-cong (length l) _ _ (λ j k. each (first + j))
   where
     each : (c : ℕ) → textDots p d mem rom r c ≡ displayedByte p d mem rom r c
     each c =
@@ -229,18 +254,17 @@ text-alone p d mem rom r {b} {l} i e h = h ∙ build-cong (length l) (textDots p
         (λ o. text-off p d mem rom r c o)
         ∙ ap (λ (g : ℕ). mixed (d .bits .text) (d .bits .graphic) (d .combination) (textDots p d mem rom r c) g) (graphic-off p d mem r c i e)
 
--- cells laid into the front of an array, and packed from there
-module _ (C : ℕ) (f : ℕ → ℕ) (ys rest : List ℕ) (h : ys ≡ build C f) where
-  count : length ys ≡ C
-  count = ap length h ∙ build-length C f
+-- an address that goes on from a column
+pub along : (start first n : ℕ) {at : ℕ} → at ≡ (start + first + n) % 65536 → at ≡ (start + (first + n)) % 65536
+along start first n e = omega (arith, e)
 
-  pub front-fits : C ≤ length (ys ++ rest)
-  front-fits = rw (length-append ys rest) (omega (arith, count))
+-- from the first column on, as many cells as the panel has columns
+pub whole-row : (f : ℕ → ℕ) (n : ℕ) {l : List ℕ} {m : ℕ} → m ≡ n → l ≡ build m (λ j. f (0 + j)) → l ≡ build n f
+whole-row f n {l} {m} e h = h ∙ ap (λ (k : ℕ). build k (λ j. f (0 + j))) e ∙ build-cong n _ f (λ j k. ap f (omega arith))
 
-  pub front-count : C ≡ length (take C (ys ++ rest))
-  front-count = sym (ap length (take-at ys rest C count) ∙ count)
-
-  pub front-packed : (w : ℕ) (x out : List ℕ) → (w ≡ 6) ⊎ (w ≡ 8) → C ≤ 80 → length out ≡ rowBytes C w → x ≡ packOf w (take C (ys ++ rest)) out → x ≡ rowFrom C w f
-  front-packed w x out k few m e =
-      e ∙ ap (λ (z : List ℕ). packOf w z out) (take-at ys rest C count ∙ h)
-      ∙ packed-by-rule C w (build C f) f (build-length C f) (λ c l. build-at C f c 0 l) k few out m
+-- and packed
+pub packed-row : (C w : ℕ) (f : ℕ → ℕ) (l x out : List ℕ) → l ≡ build C f → (w ≡ 6) ⊎ (w ≡ 8) → C ≤ 80 → length out ≡ rowBytes C w
+    → x ≡ packOf w l out → x ≡ rowFrom C w f
+packed-row C w f l x out h k few m e =
+    e ∙ ap (λ (z : List ℕ). packOf w z out) h
+    ∙ packed-by-rule C w (build C f) f (build-length C f) (λ c l. build-at C f c 0 l) k few out m

@@ -5,9 +5,9 @@ use mathlib.Core.Bool.{Bool, cond, _&&_}
 use lib.Dec.{eqb}
 use lib.ListN.{length}
 use Rattle.ground.specs.Packing.{rowBytes, dotAt, rowFrom, frameFrom}
-use Rattle.display.specs.Types.{Panel, Display, Registers, Reply, Seen}
-use Rattle.state.specs.State.{validPanel, validDisplay, validRegisters}
-use Rattle.display.specs.Displayed.{displayedByte, cellByte}
+use Rattle.display.specs.Types.{Panel, Display, Registers, Reply}
+use Rattle.state.specs.State.{validPanel, validRegisters}
+use Rattle.display.specs.Displayed.{cellByte}
 
 -- dot x of dot row r
 unfoldable pub dotOf : Panel → Display → List ℕ → List ℕ → ℕ → ℕ → ℕ
@@ -49,13 +49,3 @@ paintOf p r mem rom frame =
     (painted (replyOf 0) (frameOf p (r .display) mem rom))
     (painted (replyOf 2) frame))
     (painted (replyOf 1) frame)
-
-abbrev pub seenOf : ℕ → ℕ → Seen
-seenOf n byte = record { number = n; place = 0; byte = byte }
-
--- a displayed byte asked for by itself: 1, 2, or the byte
-unfoldable pub displayedOf : Panel → Display → List ℕ → List ℕ → ℕ → ℕ → Seen
-displayedOf p d mem rom r c =
-    cond (validPanel p && validDisplay d)
-    (cond (lentLengths mem rom) (seenOf 0 (displayedByte p d mem rom r c)) (seenOf 2 0))
-    (seenOf 1 0)

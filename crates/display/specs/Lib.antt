@@ -2,3 +2,5 @@ pub mod Types
 pub mod Displayed
 pub mod Frame
 pub mod Drawable
+pub mod Shaded
+pub mod Layers

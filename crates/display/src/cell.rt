@@ -1,17 +1,14 @@
-// The byte of a cell in a dot row.
+// What the byte of a cell in a dot row is made of.
 ghost use mathlib.Core.Path.{_≡_};
 ghost use mathlib.Core.Bool.{cond, not, _&&_};
 ghost use mathlib.Core.Logic.{_⊎_};
-ghost use Prim.Native.Nat.{_-_, _/_, _%_, _^_, _≤_, _<_};
+ghost use Prim.Native.Nat.{_-_, _%_, _^_, _≤_, _<_};
 ghost use lib.ListN.{length, getD};
-ghost use Rattle.display.specs.Displayed.{addressOf, glyphRow, glyphDots, textDots, graphicDots, mixed, attributeByte, displayedByte, cursorLit, cursorCovers};
-ghost use Rattle.state.specs.Attribute.{shownAs, attributed};
-ghost use Rattle.display.specs.Drawable.{Drawable};
+ghost use Rattle.display.specs.Displayed.{addressOf, glyphRow, mixed, cursorLit, cursorCovers};
+ghost use Rattle.state.specs.Attribute.{shownAs};
 use state::attribute::Look;
 use state::attribute::Manner;
-use state::attribute::look_at;
 use state::combination::combine;
-use state::combination::is_attribute;
 use state::panel::Panel;
 use state::registers::Combination;
 use state::registers::Cursor;
@@ -83,81 +80,6 @@ pub(crate) fn look_shows(look: Look, width: usize, normal: bool, dots: u8) -> u8
     }
 }
 
-// The w bits of a glyph row as an attribute byte has them shown.
-fn attribute_shows(width: usize, normal: bool, attribute: u8, dots: u8) -> u8
-    requires { ⌜ ((width ≡ 6) ⊎ (width ≡ 8)) ⌝ }
-    requires { ⌜ dots < 2 ^ width ⌝ }
-    ensures { λ r. ⌜ r ≡ attributed width normal attribute dots ⌝ }
-{
-    look_shows(look_at(attribute), width, normal, dots)
-}
-
-// The w bits of a cell's glyph row.
-fn glyph_dots(
-    panel: Panel,
-    display: Display,
-    mem: &[u8],
-    rom: &[u8],
-    row: usize,
-    column: usize,
-) -> u8
-    requires { ⌜ Drawable panel display (now mem) (now rom) ⌝ }
-    ensures { λ r. ⌜ r ≡ glyphDots panel display (now (mem .entry)) (now (rom .entry)) row column ⌝ }
-{
-    let code = byte_at(mem, address(display.text, row / 8, column));
-    low(panel.width, glyph(display, mem, rom, code, row % 8))
-}
-
-// The attribute byte of a cell: one for all eight rows of its line.
-fn attribute_at(display: Display, mem: &[u8], line: usize, column: usize) -> u8
-    requires { ⌜ length (now mem) ≡ 65536 ⌝ }
-    ensures { λ r. ⌜ r ≡ attributeByte display (now (mem .entry)) line column ⌝ }
-{
-    byte_at(mem, address(display.graphic, line, column))
-}
-
-fn text_dots(
-    panel: Panel,
-    display: Display,
-    mem: &[u8],
-    rom: &[u8],
-    row: usize,
-    column: usize,
-) -> u8
-    requires { ⌜ Drawable panel display (now mem) (now rom) ⌝ }
-    ensures { λ r. ⌜ r ≡ textDots panel display (now (mem .entry)) (now (rom .entry)) row column ⌝ }
-{
-    if !display.bits.text {
-        return 0;
-    }
-    let dots = glyph_dots(panel, display, mem, rom, row, column);
-    let combination = display.combination;
-    if is_attribute(combination) & display.bits.graphic {
-        return attribute_shows(
-            panel.width,
-            display.phase,
-            attribute_at(display, mem, row / 8, column),
-            dots,
-        );
-    }
-    dots
-}
-
-fn graphic_dots(panel: Panel, display: Display, mem: &[u8], row: usize, column: usize) -> u8
-    requires { ⌜ ((panel .width ≡ 6) ⊎ (panel .width ≡ 8)) ⌝ }
-    requires { ⌜ length (now mem) ≡ 65536 ⌝ }
-    ensures { λ r. ⌜ r ≡ graphicDots panel display (now (mem .entry)) row column ⌝ }
-{
-    let combination = display.combination;
-    if display.bits.graphic & !is_attribute(combination) {
-        return low(
-            panel.width,
-            byte_at(mem, address(display.graphic, row, column)),
-        );
-    }
-    0
-}
-
 // The layers that are on, together.
 pub(crate) fn mix(
     text_on: bool,
@@ -175,30 +97,6 @@ pub(crate) fn mix(
         return text;
     }
     graphic
-}
-
-// The displayed byte.
-pub(crate) fn shown_byte(
-    panel: Panel,
-    display: Display,
-    mem: &[u8],
-    rom: &[u8],
-    row: usize,
-    column: usize,
-) -> u8
-    requires { ⌜ Drawable panel display (now mem) (now rom) ⌝ }
-    ensures { λ r. ⌜ r ≡ displayedByte panel display (now (mem .entry)) (now (rom .entry)) row column ⌝ }
-{
-    let text = text_dots(panel, display, mem, rom, row, column);
-    let graphic = graphic_dots(panel, display, mem, row, column);
-    let combination = display.combination;
-    mix(
-        display.bits.text,
-        display.bits.graphic,
-        combination,
-        text,
-        graphic,
-    )
 }
 
 pub(crate) fn cursor_lit(on: bool, blink: bool, normal: bool) -> bool

@@ -5,6 +5,7 @@ ghost use lib.ListN.{length};
 ghost use Rattle.ground.specs.Packing.{rowBytes};
 ghost use Rattle.display.specs.Frame.{frameOf, painted, paintOf};
 ghost use Rattle.display.specs.Drawable.{Drawable};
+use super::layers::tables;
 use super::row::paint_row;
 use state::panel::Panel;
 use state::registers::Display;
@@ -24,13 +25,33 @@ fn paint_rows(
     requires { ⌜ (bytes ≡ rowBytes (panel .columns) (panel .width)) × (length (now frame) ≡ 8 * panel .lines * bytes) ⌝ }
     ensures { λ _. ⌜ now (frame .exit) ≡ frameOf panel display (now (mem .entry)) (now (rom .entry)) ⌝ }
 {
-    let rows = 8 * panel.lines;
-    let mut row: usize = 0;
-    while row < rows {
-        let at = row * bytes;
-        let end = at + bytes;
-        paint_row(panel, display, mem, rom, row, &mut frame[at..end]);
-        row += 1;
+    let columns = panel.columns;
+    let lines = panel.lines;
+    let mut lit = [0u8; 16];
+    let mut dark = [0u8; 16];
+    tables(panel, display, &mut lit, &mut dark);
+    let mut cells = [0u8; 80];
+    let mut line: usize = 0;
+    while line < lines {
+        let mut v: usize = 0;
+        while v < 8 {
+            let row = 8 * line + v;
+            let at = row * bytes;
+            let end = at + bytes;
+            paint_row(
+                panel,
+                display,
+                mem,
+                rom,
+                &lit,
+                &dark,
+                row,
+                &mut cells[..columns],
+                &mut frame[at..end],
+            );
+            v += 1;
+        }
+        line += 1;
     }
 }
 

@@ -1,12 +1,14 @@
-// The layers of a dot row, laid into its cells from the left. What does not depend on the column is worked out once, and a layer's address
-// goes on by one, round, from cell to cell.
+// The layers of a dot row from a column on, laid into its cells one over the other, from the left. What does not depend on the column is
+// worked out once, and a layer's address goes on by one, round, from cell to cell. Nothing else computes a displayed byte.
 ghost use mathlib.Core.Path.{_≡_};
 ghost use mathlib.Core.Logic.{_⊎_};
-ghost use Prim.Native.Nat.{_-_, _/_, _^_};
-ghost use lib.ListN.{length};
+ghost use Prim.Native.Nat.{_+_, _-_, _/_, _^_, _≤_};
+ghost use lib.ListN.{length, getD};
 ghost use Rattle.ground.specs.Lists.{build};
 ghost use Rattle.state.specs.Attribute.{attributed};
-ghost use Rattle.display.specs.Displayed.{attributeByte, glyphDots, textDots, displayedByte};
+ghost use Rattle.display.specs.Displayed.{attributeByte, glyphDots, textDots, graphicDots, displayedByte};
+ghost use Rattle.display.specs.Layers.{layersAt};
+ghost use Rattle.display.specs.Shaded.{Shaded};
 ghost use Rattle.display.specs.Drawable.{Drawable};
 use super::cell::address;
 use super::cell::byte_at;
@@ -21,19 +23,27 @@ use state::panel::Panel;
 use state::registers::Display;
 
 // The glyph rows of the line's codes.
-fn lay_glyphs(panel: Panel, display: Display, mem: &[u8], rom: &[u8], row: usize, cells: &mut [u8])
+fn lay_glyphs(
+    panel: Panel,
+    display: Display,
+    mem: &[u8],
+    rom: &[u8],
+    row: usize,
+    column: usize,
+    cells: &mut [u8],
+)
     requires { ⌜ Drawable panel display (now mem) (now rom) ⌝ }
-    ensures { λ _. ⌜ now (cells .exit) ≡ build (length (now (cells .entry))) (glyphDots panel display (now (mem .entry)) (now (rom .entry)) row) ⌝ }
+    ensures { λ _. ⌜ now (cells .exit) ≡ build (length (now (cells .entry))) (λ j. glyphDots panel display (now (mem .entry)) (now (rom .entry)) row (column + j)) ⌝ }
 {
-    let mut at = address(display.text, row / 8, 0);
-    for column in 0..cells.len() {
+    let mut at = address(display.text, row / 8, column);
+    for j in 0..cells.len() {
         let code = byte_at(mem, at);
-        cells[column] = low(panel.width, glyph(display, mem, rom, code, row % 8));
+        cells[j] = low(panel.width, glyph(display, mem, rom, code, row % 8));
         at = std::num::wrapping_add_u16(at, 1);
     }
 }
 
-// The whole table for one row: what dots that are all set, and all reset, become under each of the sixteen codes.
+// The whole table: what dots that are all set, and all reset, become under each of the sixteen codes.
 fn shades(width: usize, normal: bool, lit: &mut [u8], dark: &mut [u8])
     requires { ⌜ ((width ≡ 6) ⊎ (width ≡ 8)) ⌝ }
     requires { ⌜ (length (now lit) ≡ 16) × (length (now dark) ≡ 16) ⌝ }
@@ -49,84 +59,137 @@ fn shades(width: usize, normal: bool, lit: &mut [u8], dark: &mut [u8])
     }
 }
 
+// The tables of a state: in attribute mode the shades, else none are asked for.
+pub(crate) fn tables(panel: Panel, display: Display, lit: &mut [u8], dark: &mut [u8])
+    requires { ⌜ ((panel .width ≡ 6) ⊎ (panel .width ≡ 8)) ⌝ }
+    requires { ⌜ (length (now lit) ≡ 16) × (length (now dark) ≡ 16) ⌝ }
+    ensures { λ _. ⌜ Shaded panel display (now (lit .exit)) (now (dark .exit)) ⌝ }
+{
+    let combination = display.combination;
+    if is_attribute(combination) {
+        shades(panel.width, display.phase, lit, dark);
+    }
+}
+
 // The line's attributes over the glyph rows that stand there: of each dot, what its code makes of one that is set or reset.
 fn lay_attributes(
     panel: Panel,
     display: Display,
     mem: &[u8],
     rom: &[u8],
+    lit: &[u8],
+    dark: &[u8],
     row: usize,
+    column: usize,
     cells: &mut [u8],
 )
     requires { ⌜ Drawable panel display (now mem) (now rom) ⌝ }
-    requires { ⌜ now cells ≡ build (length (now cells)) (glyphDots panel display (now mem) (now rom) row) ⌝ }
-    ensures { λ _. ⌜ now (cells .exit) ≡ build (length (now (cells .entry))) (λ c. attributed (panel .width) (display .phase) (attributeByte display (now (mem .entry)) (row / 8) c) (glyphDots panel display (now (mem .entry)) (now (rom .entry)) row c)) ⌝ }
+    requires { ⌜ (now lit ≡ build 16 (λ n. attributed (panel .width) (display .phase) n (2 ^ panel .width - 1))) × (now dark ≡ build 16 (λ n. attributed (panel .width) (display .phase) n 0)) ⌝ }
+    requires { ⌜ now cells ≡ build (length (now cells)) (λ j. glyphDots panel display (now mem) (now rom) row (column + j)) ⌝ }
+    ensures { λ _. ⌜ now (cells .exit) ≡ build (length (now (cells .entry))) (λ j. attributed (panel .width) (display .phase) (attributeByte display (now (mem .entry)) (row / 8) (column + j)) (glyphDots panel display (now (mem .entry)) (now (rom .entry)) row (column + j))) ⌝ }
 {
-    let mut lit = [0u8; 16];
-    let mut dark = [0u8; 16];
-    shades(panel.width, display.phase, &mut lit, &mut dark);
     let all = full(panel.width);
-    let mut at = address(display.graphic, row / 8, 0);
-    for column in 0..cells.len() {
+    let mut at = address(display.graphic, row / 8, column);
+    for j in 0..cells.len() {
         let code = (byte_at(mem, at) % 16) as usize;
-        let dots = cells[column];
-        cells[column] = (dots & lit[code]) | ((all - dots) & dark[code]);
+        let dots = cells[j];
+        cells[j] = (dots & lit[code]) | ((all - dots) & dark[code]);
         at = std::num::wrapping_add_u16(at, 1);
     }
 }
 
 // No dots.
 fn clear(cells: &mut [u8])
-    ensures { λ _. ⌜ now (cells .exit) ≡ build (length (now (cells .entry))) (λ c. 0) ⌝ }
+    ensures { λ _. ⌜ now (cells .exit) ≡ build (length (now (cells .entry))) (λ j. 0) ⌝ }
 {
-    for column in 0..cells.len() {
-        cells[column] = 0;
+    for j in 0..cells.len() {
+        cells[j] = 0;
     }
 }
 
 // The text's dots.
-pub(crate) fn lay_text(
+fn lay_text(
     panel: Panel,
     display: Display,
     mem: &[u8],
     rom: &[u8],
+    lit: &[u8],
+    dark: &[u8],
     row: usize,
+    column: usize,
     cells: &mut [u8],
 )
     requires { ⌜ Drawable panel display (now mem) (now rom) ⌝ }
-    ensures { λ _. ⌜ now (cells .exit) ≡ build (length (now (cells .entry))) (textDots panel display (now (mem .entry)) (now (rom .entry)) row) ⌝ }
+    requires { ⌜ Shaded panel display (now lit) (now dark) ⌝ }
+    ensures { λ _. ⌜ now (cells .exit) ≡ build (length (now (cells .entry))) (λ j. textDots panel display (now (mem .entry)) (now (rom .entry)) row (column + j)) ⌝ }
 {
     if !display.bits.text {
         clear(cells);
         return;
     }
-    lay_glyphs(panel, display, mem, rom, row, cells);
+    lay_glyphs(panel, display, mem, rom, row, column, cells);
     let combination = display.combination;
     if is_attribute(combination) & display.bits.graphic {
-        lay_attributes(panel, display, mem, rom, row, cells);
+        lay_attributes(panel, display, mem, rom, lit, dark, row, column, cells);
     }
 }
 
+// The text's dots given out, as far as they are asked for.
+fn give_text(cells: &[u8], text: &mut [u8])
+    requires { ⌜ length (now text) ≤ length (now cells) ⌝ }
+    ensures { λ _. ⌜ now (text .exit) ≡ build (length (now (text .entry))) (λ j. getD (now (cells .entry)) j 0) ⌝ }
+{
+    for j in 0..text.len() {
+        text[j] = cells[j];
+    }
+}
+
+// The graphic's dots given out, likewise.
+fn give_graphic(
+    panel: Panel,
+    display: Display,
+    mem: &[u8],
+    row: usize,
+    column: usize,
+    graphic: &mut [u8],
+)
+    requires { ⌜ ((panel .width ≡ 6) ⊎ (panel .width ≡ 8)) ⌝ }
+    requires { ⌜ length (now mem) ≡ 65536 ⌝ }
+    ensures { λ _. ⌜ now (graphic .exit) ≡ build (length (now (graphic .entry))) (λ j. graphicDots panel display (now (mem .entry)) row (column + j)) ⌝ }
+{
+    let combination = display.combination;
+    if display.bits.graphic & !is_attribute(combination) {
+        let mut at = address(display.graphic, row, column);
+        for j in 0..graphic.len() {
+            graphic[j] = low(panel.width, byte_at(mem, at));
+            at = std::num::wrapping_add_u16(at, 1);
+        }
+        return;
+    }
+    clear(graphic);
+}
+
 // The graphic's dots, mixed with the text's that stand there.
-pub(crate) fn lay_graphic(
+fn lay_graphic(
     panel: Panel,
     display: Display,
     mem: &[u8],
     rom: &[u8],
     row: usize,
+    column: usize,
     cells: &mut [u8],
 )
     requires { ⌜ Drawable panel display (now mem) (now rom) ⌝ }
-    requires { ⌜ now cells ≡ build (length (now cells)) (textDots panel display (now mem) (now rom) row) ⌝ }
-    ensures { λ _. ⌜ now (cells .exit) ≡ build (length (now (cells .entry))) (displayedByte panel display (now (mem .entry)) (now (rom .entry)) row) ⌝ }
+    requires { ⌜ now cells ≡ build (length (now cells)) (λ j. textDots panel display (now mem) (now rom) row (column + j)) ⌝ }
+    ensures { λ _. ⌜ now (cells .exit) ≡ build (length (now (cells .entry))) (λ j. displayedByte panel display (now (mem .entry)) (now (rom .entry)) row (column + j)) ⌝ }
 {
     let combination = display.combination;
     if display.bits.graphic & !is_attribute(combination) {
-        let mut at = address(display.graphic, row, 0);
-        for column in 0..cells.len() {
-            let text = cells[column];
+        let mut at = address(display.graphic, row, column);
+        for j in 0..cells.len() {
+            let text = cells[j];
             let graphic = low(panel.width, byte_at(mem, at));
-            cells[column] = mix(
+            cells[j] = mix(
                 display.bits.text,
                 display.bits.graphic,
                 combination,
@@ -136,4 +199,32 @@ pub(crate) fn lay_graphic(
             at = std::num::wrapping_add_u16(at, 1);
         }
     }
+}
+
+// The routine that yields a displayed byte: the layers of a dot row from a column on. What comes of them fills its list; text and graphic
+// are given out as far as their lists go, the painter's to no cell.
+pub(crate) fn lay(
+    panel: Panel,
+    display: Display,
+    mem: &[u8],
+    rom: &[u8],
+    lit: &[u8],
+    dark: &[u8],
+    row: usize,
+    column: usize,
+    text: &mut [u8],
+    graphic: &mut [u8],
+    shown: &mut [u8],
+)
+    requires { ⌜ Drawable panel display (now mem) (now rom) ⌝ }
+    requires { ⌜ Shaded panel display (now lit) (now dark) ⌝ }
+    requires { ⌜ length (now text) ≤ length (now shown) ⌝ }
+    ensures { λ _. ⌜ now (text .exit) ≡ build (length (now (text .entry))) (λ j. layersAt panel display (now (mem .entry)) (now (rom .entry)) row (column + j) .text) ⌝ }
+    ensures { λ _. ⌜ now (graphic .exit) ≡ build (length (now (graphic .entry))) (λ j. layersAt panel display (now (mem .entry)) (now (rom .entry)) row (column + j) .graphic) ⌝ }
+    ensures { λ _. ⌜ now (shown .exit) ≡ build (length (now (shown .entry))) (λ j. layersAt panel display (now (mem .entry)) (now (rom .entry)) row (column + j) .shown) ⌝ }
+{
+    lay_text(panel, display, mem, rom, lit, dark, row, column, shown);
+    give_text(shown, text);
+    give_graphic(panel, display, mem, row, column, graphic);
+    lay_graphic(panel, display, mem, rom, row, column, shown);
 }

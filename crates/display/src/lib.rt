@@ -1,6 +1,6 @@
 // What the panel shows: from a state and the lent memory every dot.
 mod cell;
-pub mod displayed;
 pub mod frame;
 mod layers;
 mod row;
+pub mod seen;

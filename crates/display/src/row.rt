@@ -1,4 +1,4 @@
-// One dot row: its layers laid cell by cell, the cursor over them, then packed into the row's own stretch.
+// One dot row: its layers laid, the cursor over what comes of them, then packed into the row's own stretch.
 ghost use mathlib.Core.Path.{_≡_};
 ghost use lib.ListN.{length};
 ghost use Rattle.ground.specs.Lists.{build};
@@ -6,11 +6,11 @@ ghost use Rattle.ground.specs.Packing.{rowBytes};
 ghost use Rattle.display.specs.Displayed.{displayedByte, cellByte};
 ghost use Rattle.display.specs.Frame.{rowOf};
 ghost use Rattle.display.specs.Drawable.{Drawable};
+ghost use Rattle.display.specs.Shaded.{Shaded};
 use super::cell::cursor_covers;
 use super::cell::cursor_lit;
 use super::cell::full;
-use super::layers::lay_graphic;
-use super::layers::lay_text;
+use super::layers::lay;
 use ground::cells::pack;
 use state::panel::Panel;
 use state::registers::Display;
@@ -29,31 +29,39 @@ fn lay_cursor(panel: Panel, display: Display, mem: &[u8], rom: &[u8], row: usize
     }
 }
 
-// The cells of a dot row.
-fn lay(panel: Panel, display: Display, mem: &[u8], rom: &[u8], row: usize, cells: &mut [u8])
-    requires { ⌜ Drawable panel display (now mem) (now rom) ⌝ }
-    requires { ⌜ length (now cells) ≡ panel .columns ⌝ }
-    ensures { λ _. ⌜ now (cells .exit) ≡ build (panel .columns) (cellByte panel display (now (mem .entry)) (now (rom .entry)) row) ⌝ }
-{
-    lay_text(panel, display, mem, rom, row, cells);
-    lay_graphic(panel, display, mem, rom, row, cells);
-    lay_cursor(panel, display, mem, rom, row, cells);
-}
-
+// A row painted; its cells are laid in what is lent.
 pub(crate) fn paint_row(
     panel: Panel,
     display: Display,
     mem: &[u8],
     rom: &[u8],
+    lit: &[u8],
+    dark: &[u8],
     row: usize,
+    cells: &mut [u8],
     out: &mut [u8],
 )
     requires { ⌜ Drawable panel display (now mem) (now rom) ⌝ }
+    requires { ⌜ Shaded panel display (now lit) (now dark) ⌝ }
+    requires { ⌜ length (now cells) ≡ panel .columns ⌝ }
     requires { ⌜ length (now out) ≡ rowBytes (panel .columns) (panel .width) ⌝ }
     ensures { λ _. ⌜ now (out .exit) ≡ rowOf panel display (now (mem .entry)) (now (rom .entry)) row ⌝ }
 {
-    let columns = panel.columns;
-    let mut cells = [0u8; 80];
-    lay(panel, display, mem, rom, row, &mut cells[..columns]);
-    pack(panel.width, &cells[..columns], out);
+    let mut text = [0u8; 0];
+    let mut graphic = [0u8; 0];
+    lay(
+        panel,
+        display,
+        mem,
+        rom,
+        lit,
+        dark,
+        row,
+        0,
+        &mut text,
+        &mut graphic,
+        cells,
+    );
+    lay_cursor(panel, display, mem, rom, row, cells);
+    pack(panel.width, cells, out);
 }

@@ -1,29 +1,24 @@
--- A line gathered byte by byte, and stored byte by byte.
-use mathlib.Core.Path.{_≡_, refl, ap, sym, _∙_}
-use mathlib.Core.List.{List, [], _∷_, _++_}
-use Prim.Native.Nat.{ℕ, zero, suc, _+_, _%_, _<_, _≤_}
+-- A line gathered, and stored byte by byte.
+use mathlib.Core.Path.{_≡_, ap, sym, _∙_}
+use mathlib.Core.List.{List, _++_}
+use Prim.Native.Nat.{ℕ, _+_, _%_, _<_, _≤_}
 use native.Mathlib.Numerals.{add-one}
 use native.Mathlib.Omega.{arith}
-use lib.ListN.{length, getD, take, drop, set, length-set, length-take, drop-of-length-le}
-use lib.Seq.{take-suc-set, drop-cons, getD-take}
+use lib.ListN.{length, getD, take, drop, set, length-set, drop-of-length-le}
+use lib.Seq.{take-at, drop-cons}
 use Rattle.ground.specs.Lists.{build, stored}
-use Rattle.ground.proofs.Lists.{build-more}
+use Rattle.ground.proofs.Lists.{build-length}
+use Rattle.sight.specs.Types.{Line}
+use Rattle.sight.specs.Ready.{Gathered}
 
--- j bytes of a rule stand in a buffer of 80
-pub record Gathering (f : ℕ → ℕ) (bytes : List ℕ) (j : ℕ) : Type 0 where
-  pub room : length bytes ≡ 80
-  pub holds : take j bytes ≡ build j f
-
-pub gathering : (f : ℕ → ℕ) (bytes : List ℕ) → length bytes ≡ 80 → Gathering f bytes 0
-unfolding build
-gathering f bytes e = record { room = e; holds = refl }
-
-pub gather-on : {f : ℕ → ℕ} {bytes : List ℕ} {j : ℕ} → Gathering f bytes j → {v : ℕ} → j < 80 → v ≡ f j → Gathering f (set bytes j v) (j + 1)
-gather-on {f} {bytes} {j} k {v} h e =
+-- bytes by a rule in the front of a buffer of 80
+pub gathered : {line : Line} (f : ℕ → ℕ) (n m : ℕ) (ys rest : List ℕ) → line .bytes ≡ ys ++ rest → line .count ≡ n → n ≤ 80 → m ≡ n → ys ≡ build m f
+    → Gathered line (build n f)
+gathered {line} f n m ys rest e c few same h =
+    let all : ys ≡ build n f = h ∙ ap (λ (k : ℕ). build k f) same in
     record {
-      room = length-set bytes j v ∙ k .room;
-      holds = ap (λ (n : ℕ). take n (set bytes j v)) (add-one j) ∙ take-suc-set bytes j v (omega (arith, k .room))
-          ∙ (λ i. k .holds i ++ (e i ∷ [])) ∙ sym (build-more j f);
+      few = omega (arith, c);
+      holds = (λ i. take (c i) (e i)) ∙ take-at ys rest n (ap length all ∙ build-length n f) ∙ all;
     }
 
 -- what is left to store from here comes to the whole

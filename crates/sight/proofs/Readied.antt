@@ -1,18 +1,21 @@
--- What being ready gives: the byte shown; and that a door that let somebody through leaves him ready.
+-- What being ready gives: the bytes shown; and that a door that let somebody through leaves him ready.
 use mathlib.Core.Path.{_≡_, ap, sym, _∙_}
 use mathlib.Core.Bool.{Bool, true, _&&_}
 use mathlib.Core.List.{List}
-use Prim.Native.Nat.{ℕ}
+use Prim.Native.Nat.{ℕ, _+_}
 use lib.Dec.{eqb}
 use lib.ListN.{length}
 use borrow.Author.Tests.{eqb-true}
+use Rattle.ground.specs.Lists.{build}
 use Rattle.ground.proofs.Tests.{both, both-left, both-right}
 use Rattle.state.specs.State.{validPanel, validDisplay, validBus, validRegisters}
 use Rattle.state.proofs.Valid.{panelled}
 use Rattle.display.specs.Displayed.{displayedByte}
-use Rattle.display.specs.Frame.{lentLengths, displayedOf}
-use Rattle.display.specs.declared.displayed.Seen.{Seen}
-use Rattle.display.proofs.Doors.{displayed-is}
+use Rattle.display.specs.Frame.{lentLengths}
+use Rattle.display.specs.Layers.{layersOf, Stretch, stretch, rowLayersOf}
+use Rattle.display.specs.declared.seen.Seen.{Seen}
+use Rattle.display.proofs.Asked.{layers-are, row-layers-are}
+use Rattle.state.specs.declared.reply.Reply.{Reply}
 use Rattle.effects.specs.Machine.{Machine, machine}
 use Rattle.sight.specs.Types.{Panel, Display, Registers, Bus}
 use Rattle.sight.specs.Ready.{Ready}
@@ -45,10 +48,17 @@ ready-past p r mem rom {a} {b} i j e l =
     ready p (r .display) mem rom (sym i ∙ both-left a b e) (both-left _ (validBus (r .bus)) (sym j ∙ both-right a b e)) l
 
 -- the byte shown, of an answer that meets the display's promise
-pub shown-byte : {p : Panel} {d : Display} {mem rom : List ℕ} → Ready p d mem rom → (r c : ℕ) {x : Seen} → x ≡ displayedOf p d mem rom r c
-    → x .byte ≡ displayedByte p d mem rom r c
+pub shown-byte : {p : Panel} {d : Display} {mem rom : List ℕ} → Ready p d mem rom → (r c : ℕ) {x : Seen} → x ≡ layersOf p d mem rom r c
+    → x .shown ≡ displayedByte p d mem rom r c
 shown-byte {p} {d} {mem} {rom} k r c e =
-    ap (λ (x : Seen). x .byte) (e ∙ displayed-is p d mem rom r c (k .panel) (k .display) (k .lent))
+    ap (λ (x : Seen). x .shown) (e ∙ layers-are p d mem rom r c (k .panel) (k .display) (k .lent))
+
+-- and the bytes of a stretch
+pub shown-bytes : {p : Panel} {d : Display} {mem rom : List ℕ} → Ready p d mem rom → (r c : ℕ) (text graphic shown : List ℕ) {x : Reply} {t g s : List ℕ}
+    → stretch x t g s ≡ rowLayersOf p d mem rom r c text graphic shown → length text ≡ length shown → length graphic ≡ length shown
+    → s ≡ build (length shown) (λ j. displayedByte p d mem rom r (c + j))
+shown-bytes {p} {d} {mem} {rom} k r c text graphic shown e m n =
+    ap (λ (x : Stretch). x .shown) (e ∙ row-layers-are p d mem rom r c text graphic shown (k .panel) (k .display) (k .lent) m n)
 
 -- whoever is ready is let through
 module _ (p : Panel) (r : Registers) (mem rom : List ℕ) (k : Ready p (r .display) mem rom) where

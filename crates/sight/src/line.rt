@@ -5,7 +5,7 @@ ghost use lib.ListN.{length, take};
 ghost use Rattle.ground.specs.Lists.{build, stored};
 ghost use Rattle.display.specs.Displayed.{displayedByte};
 ghost use Rattle.sight.specs.Ready.{Ready, Gathered};
-use display::displayed::displayed;
+use display::seen::row_layers;
 use state::panel::Panel;
 use state::registers::Display;
 
@@ -29,18 +29,24 @@ pub(crate) fn gather(
     ensures { λ r. ⌜ Gathered r (build (panel .columns - column) (λ j. displayedByte panel display (now (mem .entry)) (now (rom .entry)) row (column + j))) ⌝ }
 {
     let total = panel.columns - column;
-    let mut line = Line {
-        bytes: [0; 80],
-        count: 0,
-    };
-    let mut j: usize = 0;
-    while j < total {
-        let shown = displayed(panel, display, mem, rom, row, column + j);
-        line.bytes[j] = shown.byte;
-        j += 1;
+    let mut text = [0u8; 80];
+    let mut graphic = [0u8; 80];
+    let mut shown = [0u8; 80];
+    row_layers(
+        panel,
+        display,
+        mem,
+        rom,
+        row,
+        column,
+        &mut text[..total],
+        &mut graphic[..total],
+        &mut shown[..total],
+    );
+    Line {
+        bytes: shown,
+        count: total,
     }
-    line.count = j;
-    line
 }
 
 // A line stored from an address on.

@@ -6,7 +6,7 @@ ghost use Rattle.sight.specs.Ready.{Ready};
 use crate::door::sees;
 use crate::position::Position;
 use crate::position::find;
-use display::displayed::displayed;
+use display::seen::layers;
 use state::panel::Panel;
 use state::registers::Bus;
 use state::registers::Registers;
@@ -21,8 +21,8 @@ fn look(panel: Panel, registers: Registers, mem: &[u8], rom: &[u8]) -> Bus
     let position = find(panel, graphic, bus.pointer);
     match position {
         Position::At(row, column) => {
-            let shown = displayed(panel, display, mem, rom, row, column);
-            bus.latch = shown.byte;
+            let seen = layers(panel, display, mem, rom, row, column);
+            bus.latch = seen.shown;
             bus.error = false;
             bus
         }

@@ -8,10 +8,10 @@ use Rattle.display.proofs.layers.clear.Statement.{statement}
 use Rattle.display.proofs.layers.clear.Tie as tie
 
 abbrev Inv-loop : tie.InvT-loop
-Inv-loop cells₀ column₀ column-end cells column = Filled (λ c. 0) cells₀ cells column
+Inv-loop cells₀ j₀ j-end cells j = Filled (λ c. 0) cells₀ cells j
 
 abbrev μ-loop : tie.MeasureT-loop
-μ-loop cells₀ column₀ column-end cells column = column-end - column
+μ-loop cells₀ j₀ j-end cells j = j-end - j
 
 loop-holds : tie.Need-loop-holds Inv-loop μ-loop
 loop-holds c = none-yet _ _
@@ -19,8 +19,8 @@ loop-holds c = none-yet _ _
 slice-write-cells : tie.Need-slice-write-cells Inv-loop μ-loop
 slice-write-cells c = omega (arith, as-long _ _ (c .before .loop .inv))
 
-add-column : tie.Need-add-column Inv-loop μ-loop
-add-column c = search needs
+add-j : tie.Need-add-j Inv-loop μ-loop
+add-j c = search needs
 
 loop-less : tie.Need-loop-less Inv-loop μ-loop
 loop-less c = omega arith
@@ -42,7 +42,7 @@ clear-spec =
     μ-loop
     loop-holds
     slice-write-cells
-    add-column
+    add-j
     loop-less
     loop-again
     same-length

@@ -1,7 +1,9 @@
 -- `lay_attributes` meets its contract: cell by cell, over the glyph rows that stand there, the attributes' address going on.
-use mathlib.Core.Path.{refl}
+use mathlib.Core.Path.{_≡_, refl, ap, _∙_}
 use Prim.Native.Nat.{_-_}
 use native.Mathlib.Omega.{arith}
+use lib.ListN.{length}
+use Rattle.ground.proofs.Lists.{build-length}
 use Rattle.ground.proofs.Filling.{as-long, at-end}
 use Rattle.display.proofs.Passes.{Shading, shades-from, shades-on, still, within, all-shaded}
 use borrow.Author.Needs.{needs}
@@ -9,22 +11,13 @@ use Rattle.display.proofs.layers.lay_attributes.Statement.{statement}
 use Rattle.display.proofs.layers.lay_attributes.Tie as tie
 
 abbrev Inv-loop : tie.InvT-loop
-Inv-loop mem rom row cells₀ lit dark all at₀ column₀ column-end cells at column = Shading lit dark all mem at₀ cells₀ cells at column
+Inv-loop mem rom lit dark row column cells₀ all at₀ j₀ j-end cells at j = Shading lit dark all mem at₀ cells₀ cells at j
 
 abbrev μ-loop : tie.MeasureT-loop
-μ-loop mem rom row cells₀ lit dark all at₀ column₀ column-end cells at column = column-end - column
-
-slice-aggregate-shades : tie.Need-slice-aggregate-shades Inv-loop μ-loop
-slice-aggregate-shades c = search needs
-
-slice-aggregate-shades-2 : tie.Need-slice-aggregate-shades-2 Inv-loop μ-loop
-slice-aggregate-shades-2 c = search needs
-
-shades-requires : tie.Need-shades-requires Inv-loop μ-loop
-shades-requires c κs = let s = c .before .before .before .before .before in (s .pre .0 .width, (refl, refl))
+μ-loop mem rom lit dark row column cells₀ all at₀ j₀ j-end cells at j = j-end - j
 
 full-requires : tie.Need-full-requires Inv-loop μ-loop
-full-requires c κs = c .before .before .before .before .before .before .before .before .pre .0 .width
+full-requires c κs = search needs
 
 address-requires : tie.Need-address-requires Inv-loop μ-loop
 address-requires c κs = search needs
@@ -33,7 +26,7 @@ loop-holds : tie.Need-loop-holds Inv-loop μ-loop
 loop-holds c = shades-from (omega (arith, c .address .ensures))
 
 byte-at-requires : tie.Need-byte-at-requires Inv-loop μ-loop
-byte-at-requires c κs = c .before .before .before .before .before .before .before .before .before .before .before .before .pre .0 .memory
+byte-at-requires c κs = c .before .before .before .before .before .before .before .before .before .pre .0 .memory
 
 cast-code : tie.Need-cast-code Inv-loop μ-loop
 cast-code c = search needs
@@ -41,43 +34,51 @@ cast-code c = search needs
 slice-read-dots : tie.Need-slice-read-dots Inv-loop μ-loop
 slice-read-dots c = omega (arith, as-long _ _ (c .before .before .before .loop .inv .going .filled))
 
-array-read-cells : tie.Need-array-read-cells Inv-loop μ-loop
-array-read-cells c = omega arith
+shared-slice-read-cells : tie.Need-shared-slice-read-cells Inv-loop μ-loop
+shared-slice-read-cells c =
+    let s = c .before .before .before .before .before .before .before .before .before .before .before .before in
+    let h : length (s .args .lit .now) ≡ 16 = ap length (s .pre .1 .0 .0) ∙ build-length 16 _ in
+    omega (arith, h)
 
 sub-cells : tie.Need-sub-cells Inv-loop μ-loop
 sub-cells c =
-    let s = c .before .before .before .before .before .before .before .before .before .before .before .before .before .before in
+    let s = c .before .before .before .before .before .before .before .before .before .before .before .before in
     let a = s .args in
-    let w = c .before .before .before .loop .inv .going in
-    let t = c .before .before .loop-test .taken in
-    omega (arith, still _ _ _ w t, within (a .panel) (a .display) (a .mem .now) (a .rom .now) (a .row) (c .before .before .before .before .before .before .before .before .shades .ensures .0) (c .before .before .before .before .before .before .before .before .shades .ensures .1) (c .before .before .before .before .before .full .ensures) (c .before .before .before .before .address .ensures) (s .pre .1) t)
+    let w = c .before .before .before .before .loop .inv .going in
+    let t = c .before .before .before .loop-test .taken in
+    omega (arith, still _ _ _ w t, within (a .panel) (a .display) (a .mem .now) (a .rom .now) (a .row) (a .column) (a .lit .now) (a .dark .now) (s .pre .1 .0 .0) (s .pre .1 .0 .1) (c .before .before .before .before .before .before .full .ensures) (c .before .before .before .before .before .address .ensures) (s .pre .1 .1) t)
 
-array-read-cells-2 : tie.Need-array-read-cells-2 Inv-loop μ-loop
-array-read-cells-2 c = omega arith
+shared-slice-read-cells-2 : tie.Need-shared-slice-read-cells-2 Inv-loop μ-loop
+shared-slice-read-cells-2 c =
+    let s = c .before .before .before .before .before .before .before .before .before .before .before .before .before in
+    let h : length (s .args .dark .now) ≡ 16 = ap length (s .pre .1 .0 .1) ∙ build-length 16 _ in
+    omega (arith, h)
 
 slice-write-cells : tie.Need-slice-write-cells Inv-loop μ-loop
-slice-write-cells c = omega (arith, as-long _ _ (c .before .before .before .loop .inv .going .filled))
+slice-write-cells c = omega (arith, as-long _ _ (c .before .before .before .before .before .loop .inv .going .filled))
 
 wrapping-add-u16-requires : tie.Need-wrapping-add-u16-requires Inv-loop μ-loop
 wrapping-add-u16-requires c κs = search needs
 
-add-column : tie.Need-add-column Inv-loop μ-loop
-add-column c = let s = c .before .before .before .before .before .before .before .before .before .before .before .before .before .before .before in omega (arith, c .before .before .before .loop-test .taken, s .good)
+add-j : tie.Need-add-j Inv-loop μ-loop
+add-j c =
+    let s = c .before .before .before .before .before .before .before .before .before .before .before .before .before .before in
+    omega (arith, c .before .before .before .before .before .loop-test .taken, s .good)
 
 loop-less : tie.Need-loop-less Inv-loop μ-loop
 loop-less c = omega arith
 
 loop-again : tie.Need-loop-again Inv-loop μ-loop
-loop-again c = shades-on (c .before .before .before .before .loop .inv) (c .before .before .before .loop-test .taken) (c .before .before .byte-at .ensures) (c .wrapping-add-u16 .ensures)
+loop-again c = shades-on (c .before .before .before .before .before .before .loop .inv) (c .before .before .before .before .before .loop-test .taken) (c .before .before .before .before .byte-at .ensures) (c .wrapping-add-u16 .ensures)
 
 same-length : tie.Need-same-length Inv-loop μ-loop
 same-length c = as-long _ _ (c .before .loop .inv .going .filled)
 
 returns : tie.Need-returns Inv-loop μ-loop
 returns c =
-    let s = c .before .before .before .before .before .before .before .before .before .before .before .before in
-    all-shaded _ _ _ _ _ (c .before .before .before .before .before .before .shades .ensures .0) (c .before .before .before .before .before .before .shades .ensures .1) (c .before .before .before .full .ensures) (c .before .before .address .ensures) (s .pre .1) _
-    (at-end _ _ (c .before .loop .inv .going .filled) _ refl (c .loop-test .left))
+    let s = c .before .before .before .before .before .before .before .before .before in
+    let a = s .args in
+    all-shaded (a .panel) (a .display) (a .mem .now) (a .rom .now) (a .row) (a .column) (a .lit .now) (a .dark .now) (s .pre .1 .0 .0) (s .pre .1 .0 .1) (c .before .before .before .full .ensures) (c .before .before .address .ensures) (s .pre .1 .1) _ (at-end _ _ (c .before .loop .inv .going .filled) _ refl (c .loop-test .left))
 
 pub lay-attributes-spec : {M : Type 1} → statement M
 lay-attributes-spec =
@@ -85,21 +86,18 @@ lay-attributes-spec =
     (tie.spec
     Inv-loop
     μ-loop
-    slice-aggregate-shades
-    slice-aggregate-shades-2
-    shades-requires
     full-requires
     address-requires
     loop-holds
     byte-at-requires
     cast-code
     slice-read-dots
-    array-read-cells
+    shared-slice-read-cells
     sub-cells
-    array-read-cells-2
+    shared-slice-read-cells-2
     slice-write-cells
     wrapping-add-u16-requires
-    add-column
+    add-j
     loop-less
     loop-again
     same-length

@@ -5,16 +5,16 @@ use native.Mathlib.Omega.{arith}
 use Rattle.ground.proofs.Filling.{as-long, at-end}
 use Rattle.display.specs.Displayed.{displayedByte}
 use Rattle.display.proofs.Cases.{graphic-on, shown}
-use Rattle.display.proofs.Passes.{Going, goes-from, goes-on, still, of-rule, text-alone}
+use Rattle.display.proofs.Passes.{Going, goes-from, goes-on, still, of-rule, along, text-alone}
 use borrow.Author.Needs.{needs}
 use Rattle.display.proofs.layers.lay_graphic.Statement.{statement}
 use Rattle.display.proofs.layers.lay_graphic.Tie as tie
 
 abbrev Inv-loop : tie.InvT-loop
-Inv-loop panel display mem rom row cells₀ combination at₀ column₀ column-end cells at column = Going (displayedByte panel display mem rom row) (display .graphic .home + row * display .graphic .area) cells₀ cells at column
+Inv-loop panel display mem rom row column cells₀ combination at₀ j₀ j-end cells at j = Going (λ n. displayedByte panel display mem rom row (column + n)) (display .graphic .home + row * display .graphic .area + column) cells₀ cells at j
 
 abbrev μ-loop : tie.MeasureT-loop
-μ-loop panel display mem rom row cells₀ combination at₀ column₀ column-end cells at column = column-end - column
+μ-loop panel display mem rom row column cells₀ combination at₀ j₀ j-end cells at j = j-end - j
 
 is-attribute-requires : tie.Need-is-attribute-requires Inv-loop μ-loop
 is-attribute-requires c κs = search needs
@@ -23,7 +23,7 @@ address-requires : tie.Need-address-requires Inv-loop μ-loop
 address-requires c κs = search needs
 
 loop-holds : tie.Need-loop-holds Inv-loop μ-loop
-loop-holds c = goes-from _ _ _ (c .address .ensures)
+loop-holds c = goes-from _ _ _ (omega (arith, c .address .ensures))
 
 slice-read-text : tie.Need-slice-read-text Inv-loop μ-loop
 slice-read-text c = omega (arith, as-long _ _ (c .before .before .loop .inv .filled))
@@ -43,22 +43,23 @@ slice-write-cells c = omega (arith, as-long _ _ (c .before .before .before .befo
 wrapping-add-u16-requires : tie.Need-wrapping-add-u16-requires Inv-loop μ-loop
 wrapping-add-u16-requires c κs = search needs
 
-add-column : tie.Need-add-column Inv-loop μ-loop
-add-column c = let s = c .before .before .before .before .before .before .before .before .before .before .before .before .before .before in omega (arith, c .before .before .before .before .before .loop-test .taken, s .good)
+add-j : tie.Need-add-j Inv-loop μ-loop
+add-j c =
+    let s = c .before .before .before .before .before .before .before .before .before .before .before .before .before .before in
+    omega (arith, c .before .before .before .before .before .loop-test .taken, s .good)
 
 loop-less : tie.Need-loop-less Inv-loop μ-loop
 loop-less c = omega arith
 
 loop-again : tie.Need-loop-again Inv-loop μ-loop
-loop-again c =
-    let s = c .before .before .before .before .before .before .before .before .before .before .before .before .before .before in
+loop-again c = let s = c .before .before .before .before .before .before .before .before .before .before .before .before .before .before in
     let a = s .args in
     let w = c .before .before .before .before .before .before .loop .inv in
     let t = c .before .before .before .before .before .loop-test .taken in
     goes-on _ _ _ w t
     (shown (a .panel) (a .display) (a .mem .now) (a .rom .now) (a .row) _
     (still _ _ _ w t ∙ of-rule _ (s .pre .1) t)
-    (graphic-on (a .panel) (a .display) (a .mem .now) (a .row) _ (c .before .before .before .before .before .before .before .before .before .before .is-attribute .ensures) (c .before .before .before .before .before .before .before .before .if1 .taken) (w .place) (c .before .before .before .byte-at .ensures) (c .before .before .low .ensures))
+    (graphic-on (a .panel) (a .display) (a .mem .now) (a .row) _ (c .before .before .before .before .before .before .before .before .before .before .is-attribute .ensures) (c .before .before .before .before .before .before .before .before .if1 .taken) (along _ _ _ (w .place)) (c .before .before .before .byte-at .ensures) (c .before .before .low .ensures))
     (c .before .mix .ensures))
     (c .wrapping-add-u16 .ensures)
 
@@ -69,7 +70,9 @@ returns : tie.Need-returns Inv-loop μ-loop
 returns c = at-end _ _ (c .before .loop .inv .filled) _ refl (c .loop-test .left)
 
 returns-2 : tie.Need-returns-2 Inv-loop μ-loop
-returns-2 c = let s = c .before .before .before .before .before .before in text-alone _ _ _ _ _ (c .before .before .is-attribute .ensures) (c .if1 .left) (s .pre .1)
+returns-2 c =
+    let s = c .before .before .before .before .before .before in
+    text-alone _ _ _ _ _ _ (c .before .before .is-attribute .ensures) (c .if1 .left) (s .pre .1)
 
 pub lay-graphic-spec : {M : Type 1} → statement M
 lay-graphic-spec =
@@ -86,7 +89,7 @@ lay-graphic-spec =
     mix-requires
     slice-write-cells
     wrapping-add-u16-requires
-    add-column
+    add-j
     loop-less
     loop-again
     same-length

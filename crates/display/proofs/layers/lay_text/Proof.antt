@@ -1,4 +1,8 @@
 -- `lay_text` meets its contract: none, glyphs under attributes, or glyphs.
+use mathlib.Core.Path.{_≡_, sym, _∙_}
+use mathlib.Core.Bool.{true}
+use Rattle.ground.proofs.Tests.{both-left}
+use Rattle.state.specs.Combination.{isAttribute}
 use Rattle.display.proofs.Passes.{own-count, blank-text, shown-text, plain-text}
 use borrow.Author.Needs.{needs}
 use Rattle.display.proofs.layers.lay_text.Statement.{statement}
@@ -11,7 +15,7 @@ same-length : tie.Need-same-length
 same-length c = search needs
 
 returns : tie.Need-returns
-returns c = blank-text _ _ _ _ _ _ (c .before .before .before .before .if1 .taken) (c .before .before .clear .ensures)
+returns c = blank-text _ _ _ _ _ _ _ (c .before .before .before .before .if1 .taken) (c .before .before .clear .ensures)
 
 lay-glyphs-requires : tie.Need-lay-glyphs-requires
 lay-glyphs-requires c κs = search needs
@@ -20,22 +24,24 @@ is-attribute-requires : tie.Need-is-attribute-requires
 is-attribute-requires c κs = search needs
 
 lay-attributes-requires : tie.Need-lay-attributes-requires
-lay-attributes-requires c κs = (c .before .before .before .before .before .before .before .before .before .before .before .before .before .pre, own-count _ _ (c .before .before .before .before .before .before .lay-glyphs .ensures))
+lay-attributes-requires c κs =
+    let s = c .before .before .before .before .before .before .before .before .before .before .before .before .before .before .before in
+    let e : isAttribute (s .args .display .combination) ≡ true = sym (c .before .before .before .is-attribute .ensures) ∙ both-left _ (s .args .display .bits .graphic) (c .before .if2 .taken) in
+    (s .pre .0, ((s .pre .1 .lights e, s .pre .1 .darkens e), own-count _ _ (c .before .before .before .before .before .before .lay-glyphs .ensures)))
 
 same-length-2 : tie.Need-same-length-2
 same-length-2 c = search needs
 
 returns-2 : tie.Need-returns-2
 returns-2 c =
-    let a = c .before .before .before .before .before .before .before .before .before .before .before .before .before .before .before .before .args in
-    shown-text (a .panel) (a .display) (a .mem .now) (a .rom .now) (a .row) (a .cells .now) _ (c .before .before .before .before .before .before .before .before .before .before .before .if1 .left) (c .before .before .before .before .before .before .is-attribute .ensures) (c .before .before .before .before .if2 .taken)
-    (c .before .before .before .before .before .before .before .before .before .lay-glyphs .ensures) (c .before .before .lay-attributes .ensures)
+    let a = c .before .before .before .before .before .before .before .before .before .before .before .before .before .before .before .before .before .before .args in
+    shown-text (a .panel) (a .display) (a .mem .now) (a .rom .now) (a .row) (a .column) (a .cells .now) _ (c .before .before .before .before .before .before .before .before .before .before .before .if1 .left) (c .before .before .before .before .before .before .is-attribute .ensures) (c .before .before .before .before .if2 .taken) (c .before .before .before .before .before .before .before .before .before .lay-glyphs .ensures) (c .before .before .lay-attributes .ensures)
 
 same-length-3 : tie.Need-same-length-3
 same-length-3 c = search needs
 
 returns-3 : tie.Need-returns-3
-returns-3 c = plain-text _ _ _ _ _ _ (c .before .before .before .before .before .before .before .if1 .left) (c .before .before .is-attribute .ensures) (c .if2 .left) (c .before .before .before .before .before .lay-glyphs .ensures)
+returns-3 c = plain-text _ _ _ _ _ _ _ (c .before .before .before .before .before .before .before .if1 .left) (c .before .before .is-attribute .ensures) (c .if2 .left) (c .before .before .before .before .before .lay-glyphs .ensures)
 
 pub lay-text-spec : {M : Type 1} → statement M
 lay-text-spec =

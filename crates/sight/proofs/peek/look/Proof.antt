@@ -11,14 +11,14 @@ find-requires c κs = search needs
 enum-known-position : tie.Need-enum-known-position
 enum-known-position c = search needs
 
-displayed-requires : tie.Need-displayed-requires
-displayed-requires c κs = search needs
+layers-requires : tie.Need-layers-requires
+layers-requires c κs = search needs
 
 enum-told : tie.Need-enum-told
 enum-told c = search needs
 
 returns : tie.Need-returns
-returns c = peek-found _ _ _ _ (c .before .before .before .before .find .ensures) (c .before .before .position .given .1) (shown-byte (c .before .before .before .before .before .before .before .before .before .before .pre) _ _ (c .displayed .ensures))
+returns c = peek-found _ _ _ _ (c .before .before .before .before .find .ensures) (c .before .before .position .given .1) (shown-byte (c .before .before .before .before .before .before .before .before .before .before .pre) _ _ (c .layers .ensures))
 
 returns-2 : tie.Need-returns-2
 returns-2 c = peek-nowhere _ _ _ _ (c .before .before .find .ensures) (c .enum-told .given .1)
@@ -26,4 +26,4 @@ returns-2 c = peek-nowhere _ _ _ _ (c .before .before .find .ensures) (c .enum-t
 pub look-spec : {M : Type 1} → statement M
 look-spec =
     tie.close
-    (tie.spec find-requires enum-known-position displayed-requires enum-told returns returns-2)
+    (tie.spec find-requires enum-known-position layers-requires enum-told returns returns-2)

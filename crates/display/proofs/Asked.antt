@@ -1,0 +1,133 @@
+-- The layers asked for: what each test at the door answers, and what is had past them.
+use mathlib.Core.Path.{_≡_, refl, ap, sym, _∙_}
+use mathlib.Core.List.{List, [], _∷_}
+use mathlib.Core.Bool.{Bool, true, false, cond, _&&_}
+use Prim.Native.Nat.{ℕ, _+_, _≤_}
+use native.Mathlib.Omega.{arith}
+use lib.Dec.{eqb}
+use lib.ListN.{length, getD}
+use borrow.Author.Tests.{eqb-true, eq-eqb}
+use Rattle.ground.specs.Lists.{build}
+use Rattle.ground.proofs.Tests.{both, both-left, both-right, settled}
+use Rattle.state.specs.State.{validPanel, validDisplay}
+use Rattle.display.specs.Types.{Panel, Display, Reply, Seen}
+use Rattle.display.specs.Frame.{lentLengths, replyOf}
+use Rattle.display.specs.Drawable.{Drawable}
+use Rattle.display.specs.Layers.{layersAt, dark, seenOf, layersOf, Stretch, stretch, layersFrom, alike, rowLayersOf}
+use Rattle.display.proofs.Doors.{drawable}
+
+module _ (p : Panel) (d : Display) (mem rom : List ℕ) (r c : ℕ) (text graphic shown : List ℕ) {a b : Bool} (i : a ≡ validPanel p) (j : b ≡ validDisplay d) where
+  asked : (v : Bool) → (a && b) ≡ v
+      → cond v
+      (cond (lentLengths mem rom && alike text graphic shown) (layersFrom p d mem rom r c (length shown)) (stretch (replyOf 2) text graphic shown))
+      (stretch (replyOf 1) text graphic shown)
+      ≡ rowLayersOf p d mem rom r c text graphic shown
+  unfolding rowLayersOf
+  asked v e =
+      sym
+      (ap
+      (λ (t : Bool).
+      cond t
+      (cond (lentLengths mem rom && alike text graphic shown) (layersFrom p d mem rom r c (length shown)) (stretch (replyOf 2) text graphic shown))
+      (stretch (replyOf 1) text graphic shown))
+      (sym (λ k. i k && j k) ∙ e))
+
+  pub asked-1 : (a && b) ≡ false → stretch (replyOf 1) text graphic shown ≡ rowLayersOf p d mem rom r c text graphic shown
+  asked-1 e = asked false e
+
+  module _ (e : (a && b) ≡ true) where
+    fitting : (v : Bool) → (lentLengths mem rom && alike text graphic shown) ≡ v
+        → cond v (layersFrom p d mem rom r c (length shown)) (stretch (replyOf 2) text graphic shown) ≡ rowLayersOf p d mem rom r c text graphic shown
+    fitting v l =
+        sym (ap (λ (t : Bool). cond t (layersFrom p d mem rom r c (length shown)) (stretch (replyOf 2) text graphic shown)) l) ∙ asked true e
+
+    pub asked-2 : (lentLengths mem rom && alike text graphic shown) ≡ false
+        → stretch (replyOf 2) text graphic shown ≡ rowLayersOf p d mem rom r c text graphic shown
+    asked-2 l = fitting false l
+
+    module _ (l : (lentLengths mem rom && alike text graphic shown) ≡ true) where
+      text-count : length text ≡ length shown
+      text-count =
+          eqb-true (length text) (length shown)
+          (both-left (eqb (length text) (length shown)) (eqb (length graphic) (length shown)) (both-right (lentLengths mem rom) (alike text graphic shown) l))
+
+      graphic-count : length graphic ≡ length shown
+      graphic-count =
+          eqb-true (length graphic) (length shown)
+          (both-right (eqb (length text) (length shown)) (eqb (length graphic) (length shown)) (both-right (lentLengths mem rom) (alike text graphic shown) l))
+
+      pub asked-room : length text ≤ length shown
+      asked-room = omega (arith, text-count)
+
+      pub asked-drawable : Drawable p d mem rom
+      asked-drawable =
+          drawable p d mem rom (sym i ∙ both-left a b e) (sym j ∙ both-right a b e) (both-left (lentLengths mem rom) (alike text graphic shown) l)
+
+      pub asked-0 : {t g s : List ℕ} → t ≡ build (length text) (λ n. layersAt p d mem rom r (c + n) .text)
+          → g ≡ build (length graphic) (λ n. layersAt p d mem rom r (c + n) .graphic)
+          → s ≡ build (length shown) (λ n. layersAt p d mem rom r (c + n) .shown)
+          → stretch (replyOf 0) t g s ≡ rowLayersOf p d mem rom r c text graphic shown
+      asked-0 h k m =
+          (λ q.
+          stretch (replyOf 0)
+          ((h ∙ ap (λ (z : ℕ). build z (λ n. layersAt p d mem rom r (c + n) .text)) text-count) q)
+          ((k ∙ ap (λ (z : ℕ). build z (λ n. layersAt p d mem rom r (c + n) .graphic)) graphic-count) q)
+          (m q))
+          ∙ fitting true l
+
+-- of lists of one length, past the tests
+pub row-layers-are : (p : Panel) (d : Display) (mem rom : List ℕ) (r c : ℕ) (text graphic shown : List ℕ) → validPanel p ≡ true → validDisplay d ≡ true
+    → lentLengths mem rom ≡ true → length text ≡ length shown → length graphic ≡ length shown
+    → rowLayersOf p d mem rom r c text graphic shown ≡ layersFrom p d mem rom r c (length shown)
+unfolding rowLayersOf
+row-layers-are p d mem rom r c text graphic shown i j l m n =
+    λ k.
+    cond (i k && j k)
+    (cond (both l (both (eq-eqb (length text) (length shown) m) (eq-eqb (length graphic) (length shown) n)) k)
+    (layersFrom p d mem rom r c (length shown))
+    (stretch (replyOf 2) text graphic shown))
+    (stretch (replyOf 1) text graphic shown)
+
+-- three lists of one cell, as one
+abbrev seenIn : Stretch → Seen
+seenIn x =
+    record { number = x .reply .number; place = x .reply .place; text = getD (x .text) 0 0; graphic = getD (x .graphic) 0 0; shown = getD (x .shown) 0 0 }
+
+abbrev one : List ℕ
+one = 0 ∷ []
+
+module _ (p : Panel) (d : Display) (mem rom : List ℕ) (r c : ℕ) where
+  of-one : seenIn (rowLayersOf p d mem rom r c one one one) ≡ layersOf p d mem rom r c
+  unfolding rowLayersOf layersOf build
+  of-one = go (validPanel p && validDisplay d) (lentLengths mem rom)
+    where
+      here : c + 0 ≡ c
+      here = omega arith
+
+      go : (v f : Bool)
+          → seenIn (cond v (cond (f && alike one one one) (layersFrom p d mem rom r c 1) (stretch (replyOf 2) one one one)) (stretch (replyOf 1) one one one))
+          ≡ cond v (cond f (seenOf 0 (layersAt p d mem rom r c)) (seenOf 2 dark)) (seenOf 1 dark)
+      go true true = ap (λ (n : ℕ). seenOf 0 (layersAt p d mem rom r n)) here
+      go true false = refl
+      go false true = refl
+      go false false = refl
+
+  pub layers-asked : {reply : Reply} {text graphic shown : List ℕ}
+      → stretch reply text graphic shown ≡ rowLayersOf p d mem rom r c one one one → seenIn (stretch reply text graphic shown) ≡ layersOf p d mem rom r c
+  layers-asked h = ap seenIn h ∙ of-one
+
+  -- past the tests it is the three
+  pub layers-are : validPanel p ≡ true → validDisplay d ≡ true → lentLengths mem rom ≡ true
+      → layersOf p d mem rom r c ≡ seenOf 0 (layersAt p d mem rom r c)
+  unfolding layersOf
+  layers-are i j l = λ k. cond (i k && j k) (cond (l k) (seenOf 0 (layersAt p d mem rom r c)) (seenOf 2 dark)) (seenOf 1 dark)
+
+-- two replies that meet a promise are equal
+pub layers-settled : {x y : Seen} (p : Panel) (d : Display) (mem rom : List ℕ) (r c : ℕ)
+    → x ≡ layersOf p d mem rom r c → y ≡ layersOf p d mem rom r c → x ≡ y
+layers-settled p d mem rom r c h k = settled h k
+
+pub row-layers-settled : {x y : Reply} {t g s u v w : List ℕ} (p : Panel) (d : Display) (mem rom : List ℕ) (r c : ℕ) (text graphic shown : List ℕ)
+    → stretch x t g s ≡ rowLayersOf p d mem rom r c text graphic shown → stretch y u v w ≡ rowLayersOf p d mem rom r c text graphic shown
+    → stretch x t g s ≡ stretch y u v w
+row-layers-settled p d mem rom r c text graphic shown h k = settled h k

@@ -1,0 +1,49 @@
+-- `lay` meets its contract: the text, given out, the graphic, given out, and both mixed.
+use mathlib.Core.Path.{refl}
+use Prim.Native.Nat.{ℕ, _+_}
+use Rattle.display.specs.Displayed.{textDots}
+use Rattle.display.proofs.Passes.{own-count, same-count, front-of}
+use borrow.Author.Needs.{needs}
+use Rattle.display.proofs.layers.lay.Statement.{statement}
+use Rattle.display.proofs.layers.lay.Tie as tie
+
+lay-text-requires : tie.Need-lay-text-requires
+lay-text-requires c κs = search needs
+
+give-text-requires : tie.Need-give-text-requires
+give-text-requires c κs = search needs
+
+give-graphic-requires : tie.Need-give-graphic-requires
+give-graphic-requires c κs = search needs
+
+lay-graphic-requires : tie.Need-lay-graphic-requires
+lay-graphic-requires c κs = (c .before .before .before .before .before .before .before .before .before .before .before .before .before .before .before .before .before .before .before .before .before .pre .0, own-count _ _ (c .before .before .before .before .before .before .before .before .before .before .before .before .lay-text .ensures))
+
+same-length : tie.Need-same-length
+same-length c = search needs
+
+same-length-2 : tie.Need-same-length-2
+same-length-2 c = search needs
+
+same-length-3 : tie.Need-same-length-3
+same-length-3 c = search needs
+
+returns : tie.Need-returns
+returns c =
+    let s = c .before .before .before .before .before .before .before .before .before .before .before .before .before .before .before .before .before .before .before .before .before .before .before .before in
+    let a = s .args in
+    let text : ℕ → ℕ = λ j. textDots (a .panel) (a .display) (a .mem .now) (a .rom .now) (a .row) (a .column + j) in
+    (front-of text _ _ (a .text .now) (c .before .before .before .before .before .before .before .before .before .before .before .before .before .before .before .lay-text .ensures) (s .pre .1 .1) (c .before .before .before .before .before .before .before .before .before .before .give-text .ensures), (c .before .before .before .before .before .before .give-graphic .ensures, same-count text _ (a .shown .now) _ refl (c .before .before .before .before .before .before .before .before .before .before .before .before .before .before .before .lay-text .ensures) (c .before .before .lay-graphic .ensures)))
+
+pub lay-spec : {M : Type 1} → statement M
+lay-spec =
+    tie.close
+    (tie.spec
+    lay-text-requires
+    give-text-requires
+    give-graphic-requires
+    lay-graphic-requires
+    same-length
+    same-length-2
+    same-length-3
+    returns)
