@@ -220,18 +220,18 @@ front-of f n xs text e h k =
 abbrev pub bytesFrom : ℕ → List ℕ → ℕ → ℕ → ℕ
 bytesFrom w mem start n = getD mem ((start + n) % 65536) 0 % 2 ^ w
 
-module _ (p : Panel) (d : Display) (mem : List ℕ) (r first n : ℕ) {b : Bool} (i : b ≡ isAttribute (d .combination)) where
-  pub lit-graphic : {start : ℕ} {l : List ℕ} → (d .bits .graphic && not b) ≡ true → start ≡ addressOf (d .graphic) r first
+module _ (p : Panel) (d : Display) (mem : List ℕ) (r first n : ℕ) {b : Bool} (i : b ≡ (d .bits .graphic && not (isAttribute (d .combination)))) where
+  pub lit-graphic : {start : ℕ} {l : List ℕ} → b ≡ true → start ≡ addressOf (d .graphic) r first
       → l ≡ build n (bytesFrom (p .width) mem start) → l ≡ build n (λ j. graphicDots p d mem r (first + j))
   lit-graphic {start} e s h =
       h
       ∙ build-cong n _ _
       (λ j k.
       let at : (start + j) % 65536 ≡ addressOf (d .graphic) r (first + j) = omega (arith, s) in
-      graphic-on p d mem r (first + j) i e at refl refl)
+      graphic-on p d mem r (first + j) refl (sym i ∙ e) at refl refl)
 
-  pub blank-graphic : {l : List ℕ} → (d .bits .graphic && not b) ≡ false → l ≡ build n (λ j. 0) → l ≡ build n (λ j. graphicDots p d mem r (first + j))
-  blank-graphic e h = h ∙ build-cong n _ _ (λ j k. graphic-off p d mem r (first + j) i e)
+  pub blank-graphic : {l : List ℕ} → b ≡ false → l ≡ build n (λ j. 0) → l ≡ build n (λ j. graphicDots p d mem r (first + j))
+  blank-graphic e h = h ∙ build-cong n _ _ (λ j k. graphic-off p d mem r (first + j) refl (sym i ∙ e))
 
 -- over plain values: graphic off, or attribute mode, and the text stands alone
 alone : (t g : Bool) (k : Combination) (x : ℕ) → (g && not (isAttribute k)) ≡ false → (not t ≡ true → 0 ≡ x) → x ≡ mixed t g k x 0
@@ -242,17 +242,17 @@ alone true true Attribute x e h = refl
 alone true false k x e h = refl
 alone false g k x e h = sym (h refl)
 
-pub text-alone : (p : Panel) (d : Display) (mem rom : List ℕ) (r first : ℕ) {b : Bool} {l : List ℕ} → b ≡ isAttribute (d .combination)
-    → (d .bits .graphic && not b) ≡ false → l ≡ build (length l) (λ j. textDots p d mem rom r (first + j))
+pub text-alone : (p : Panel) (d : Display) (mem rom : List ℕ) (r first : ℕ) {b : Bool} {l : List ℕ} → b ≡ (d .bits .graphic && not (isAttribute (d .combination)))
+    → b ≡ false → l ≡ build (length l) (λ j. textDots p d mem rom r (first + j))
     → l ≡ build (length l) (λ j. displayedByte p d mem rom r (first + j))
 unfolding displayedByte
 text-alone p d mem rom r first {b} {l} i e h = h ∙ build-cong (length l) _ _ (λ j k. each (first + j))
   where
     each : (c : ℕ) → textDots p d mem rom r c ≡ displayedByte p d mem rom r c
     each c =
-        alone (d .bits .text) (d .bits .graphic) (d .combination) (textDots p d mem rom r c) (sym (λ j. d .bits .graphic && not (i j)) ∙ e)
+        alone (d .bits .text) (d .bits .graphic) (d .combination) (textDots p d mem rom r c) (sym i ∙ e)
         (λ o. text-off p d mem rom r c o)
-        ∙ ap (λ (g : ℕ). mixed (d .bits .text) (d .bits .graphic) (d .combination) (textDots p d mem rom r c) g) (graphic-off p d mem r c i e)
+        ∙ ap (λ (g : ℕ). mixed (d .bits .text) (d .bits .graphic) (d .combination) (textDots p d mem rom r c) g) (graphic-off p d mem r c refl (sym i ∙ e))
 
 -- an address that goes on from a column
 pub along : (start first n : ℕ) {at : ℕ} → at ≡ (start + first + n) % 65536 → at ≡ (start + (first + n)) % 65536

@@ -1,11 +1,13 @@
 // The layers of a dot row from a column on, laid into its cells one over the other, from the left. What does not depend on the column is
 // worked out once, and a layer's address goes on by one, round, from cell to cell. Nothing else computes a displayed byte.
 ghost use mathlib.Core.Path.{_≡_};
+ghost use mathlib.Core.Bool.{not, _&&_};
 ghost use mathlib.Core.Logic.{_⊎_};
 ghost use Prim.Native.Nat.{_+_, _-_, _/_, _^_, _≤_};
 ghost use lib.ListN.{length, getD};
 ghost use Rattle.ground.specs.Lists.{build};
 ghost use Rattle.state.specs.Attribute.{attributed};
+ghost use Rattle.state.specs.Combination.{isAttribute};
 ghost use Rattle.display.specs.Displayed.{attributeByte, glyphDots, textDots, graphicDots, displayedByte};
 ghost use Rattle.display.specs.Layers.{layersAt};
 ghost use Rattle.display.specs.Shaded.{Shaded};
@@ -144,6 +146,14 @@ fn give_text(cells: &[u8], text: &mut [u8])
     }
 }
 
+// Whether the graphic has dots: it is on, and not read as attributes.
+fn has_dots(display: Display) -> bool
+    ensures { λ r. ⌜ r ≡ (display .bits .graphic && not (isAttribute (display .combination))) ⌝ }
+{
+    let combination = display.combination;
+    display.bits.graphic & !is_attribute(combination)
+}
+
 // The graphic's dots given out, likewise.
 fn give_graphic(
     panel: Panel,
@@ -157,8 +167,7 @@ fn give_graphic(
     requires { ⌜ length (now mem) ≡ 65536 ⌝ }
     ensures { λ _. ⌜ now (graphic .exit) ≡ build (length (now (graphic .entry))) (λ j. graphicDots panel display (now (mem .entry)) row (column + j)) ⌝ }
 {
-    let combination = display.combination;
-    if display.bits.graphic & !is_attribute(combination) {
+    if has_dots(display) {
         let mut at = address(display.graphic, row, column);
         for j in 0..graphic.len() {
             graphic[j] = low(panel.width, byte_at(mem, at));
@@ -183,8 +192,8 @@ fn lay_graphic(
     requires { ⌜ now cells ≡ build (length (now cells)) (λ j. textDots panel display (now mem) (now rom) row (column + j)) ⌝ }
     ensures { λ _. ⌜ now (cells .exit) ≡ build (length (now (cells .entry))) (λ j. displayedByte panel display (now (mem .entry)) (now (rom .entry)) row (column + j)) ⌝ }
 {
-    let combination = display.combination;
-    if display.bits.graphic & !is_attribute(combination) {
+    if has_dots(display) {
+        let combination = display.combination;
         let mut at = address(display.graphic, row, column);
         for j in 0..cells.len() {
             let text = cells[j];

@@ -1,5 +1,5 @@
 -- `lay_graphic` meets its contract: cell by cell, over the text that stands there, the graphic's address going on.
-use mathlib.Core.Path.{refl, _∙_}
+use mathlib.Core.Path.{refl, sym, _∙_}
 use Prim.Native.Nat.{_+_, _-_, _*_}
 use native.Mathlib.Omega.{arith}
 use Rattle.ground.proofs.Filling.{as-long, at-end}
@@ -16,8 +16,8 @@ Inv-loop panel display mem rom row column cells₀ combination at₀ j₀ j-end 
 abbrev μ-loop : tie.MeasureT-loop
 μ-loop panel display mem rom row column cells₀ combination at₀ j₀ j-end cells at j = j-end - j
 
-is-attribute-requires : tie.Need-is-attribute-requires Inv-loop μ-loop
-is-attribute-requires c κs = search needs
+has-dots-requires : tie.Need-has-dots-requires Inv-loop μ-loop
+has-dots-requires c κs = search needs
 
 address-requires : tie.Need-address-requires Inv-loop μ-loop
 address-requires c κs = search needs
@@ -29,10 +29,10 @@ slice-read-text : tie.Need-slice-read-text Inv-loop μ-loop
 slice-read-text c = omega (arith, as-long _ _ (c .before .before .loop .inv .filled))
 
 byte-at-requires : tie.Need-byte-at-requires Inv-loop μ-loop
-byte-at-requires c κs = c .before .before .before .before .before .before .before .before .before .before .pre .0 .memory
+byte-at-requires c κs = c .before .before .before .before .before .before .before .before .before .pre .0 .memory
 
 low-requires : tie.Need-low-requires Inv-loop μ-loop
-low-requires c κs = c .before .before .before .before .before .before .before .before .before .before .before .pre .0 .width
+low-requires c κs = c .before .before .before .before .before .before .before .before .before .before .pre .0 .width
 
 mix-requires : tie.Need-mix-requires Inv-loop μ-loop
 mix-requires c κs = search needs
@@ -44,22 +44,20 @@ wrapping-add-u16-requires : tie.Need-wrapping-add-u16-requires Inv-loop μ-loop
 wrapping-add-u16-requires c κs = search needs
 
 add-j : tie.Need-add-j Inv-loop μ-loop
-add-j c =
-    let s = c .before .before .before .before .before .before .before .before .before .before .before .before .before .before in
-    omega (arith, c .before .before .before .before .before .loop-test .taken, s .good)
+add-j c = let s = c .before .before .before .before .before .before .before .before .before .before .before .before .before in omega (arith, c .before .before .before .before .before .loop-test .taken, s .good)
 
 loop-less : tie.Need-loop-less Inv-loop μ-loop
 loop-less c = omega arith
 
 loop-again : tie.Need-loop-again Inv-loop μ-loop
-loop-again c = let s = c .before .before .before .before .before .before .before .before .before .before .before .before .before .before in
+loop-again c = let s = c .before .before .before .before .before .before .before .before .before .before .before .before .before in
     let a = s .args in
     let w = c .before .before .before .before .before .before .loop .inv in
     let t = c .before .before .before .before .before .loop-test .taken in
     goes-on _ _ _ w t
     (shown (a .panel) (a .display) (a .mem .now) (a .rom .now) (a .row) _
     (still _ _ _ w t ∙ of-rule _ (s .pre .1) t)
-    (graphic-on (a .panel) (a .display) (a .mem .now) (a .row) _ (c .before .before .before .before .before .before .before .before .before .before .is-attribute .ensures) (c .before .before .before .before .before .before .before .before .if1 .taken) (along _ _ _ (w .place)) (c .before .before .before .byte-at .ensures) (c .before .before .low .ensures))
+    (graphic-on (a .panel) (a .display) (a .mem .now) (a .row) _ refl (sym (c .before .before .before .before .before .before .before .before .before .has-dots .ensures) ∙ c .before .before .before .before .before .before .before .before .if1 .taken) (along _ _ _ (w .place)) (c .before .before .before .byte-at .ensures) (c .before .before .low .ensures))
     (c .before .mix .ensures))
     (c .wrapping-add-u16 .ensures)
 
@@ -70,9 +68,7 @@ returns : tie.Need-returns Inv-loop μ-loop
 returns c = at-end _ _ (c .before .loop .inv .filled) _ refl (c .loop-test .left)
 
 returns-2 : tie.Need-returns-2 Inv-loop μ-loop
-returns-2 c =
-    let s = c .before .before .before .before .before .before in
-    text-alone _ _ _ _ _ _ (c .before .before .is-attribute .ensures) (c .if1 .left) (s .pre .1)
+returns-2 c = let s = c .before .before .before .before .before in text-alone _ _ _ _ _ _ (c .before .has-dots .ensures) (c .if1 .left) (s .pre .1)
 
 pub lay-graphic-spec : {M : Type 1} → statement M
 lay-graphic-spec =
@@ -80,7 +76,7 @@ lay-graphic-spec =
     (tie.spec
     Inv-loop
     μ-loop
-    is-attribute-requires
+    has-dots-requires
     address-requires
     loop-holds
     slice-read-text
