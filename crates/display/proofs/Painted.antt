@@ -1,12 +1,11 @@
 -- What callers may use of a frame: what it depends on, its rows, bytes and dots, and what a painting keeps.
-use mathlib.Core.Path.{_≡_, refl, ap, sym, _∙_}
+use mathlib.Core.Path.{_≡_, refl, sym, _∙_}
 use mathlib.Core.List.{List}
 use mathlib.Core.Bool.{Bool, true, false, cond, _&&_}
 use Prim.Native.Nat.{ℕ, _+_, _-_, _*_, _/_, _%_, _^_, _<_}
-use lib.Dec.{eqb}
 use lib.ListN.{length, getD, take, drop}
 use borrow.Author.Tests.{eqb-true}
-use Rattle.ground.specs.Packing.{packed, rowBytes, frameFrom, rowFrom}
+use Rattle.ground.specs.Packing.{rowBytes, frameFrom}
 use Rattle.ground.proofs.Frames as frames
 use Rattle.ground.proofs.Tests.{both-right}
 use Rattle.display.specs.Types.{Panel, Display, Registers}

@@ -6,6 +6,7 @@ ghost use Prim.Native.Nat.{_-_, _%_, _^_, _≤_, _<_};
 ghost use lib.ListN.{length, getD};
 ghost use Rattle.display.specs.Displayed.{addressOf, glyphRow, mixed, cursorLit, cursorCovers};
 ghost use Rattle.state.specs.Attribute.{shownAs};
+use ground::bytes::full;
 use state::attribute::Look;
 use state::attribute::Manner;
 use state::combination::combine;
@@ -14,22 +15,6 @@ use state::registers::Combination;
 use state::registers::Cursor;
 use state::registers::Display;
 use state::registers::Plane;
-
-// The low w bits set.
-pub(crate) fn full(width: usize) -> u8
-    requires { ⌜ ((width ≡ 6) ⊎ (width ≡ 8)) ⌝ }
-    ensures { λ r. ⌜ r ≡ 2 ^ width - 1 ⌝ }
-{
-    if width == 6 { 63 } else { 255 }
-}
-
-// The low w bits of a byte.
-pub(crate) fn low(width: usize, n: u8) -> u8
-    requires { ⌜ ((width ≡ 6) ⊎ (width ≡ 8)) ⌝ }
-    ensures { λ r. ⌜ r ≡ n % 2 ^ width ⌝ }
-{
-    n & full(width)
-}
 
 // Where text or graphic has the byte of a row in a column.
 pub(crate) fn address(plane: Plane, row: usize, column: usize) -> u16

@@ -7,7 +7,7 @@ use native.Mathlib.Numerals.{add-one}
 use native.Mathlib.Decide.{decLt}
 use native.Mathlib.Omega.{arith}
 use borrow.Author.Tests.{eq-eqb, ne-eqb, eqb-true}
-use Rattle.ground.specs.Lists.{build, joined, firstOf}
+use Rattle.ground.specs.Lists.{build}
 use Rattle.ground.proofs.Searches.{Passed, each-built, each-joined, first-has, first-none, first-found, build-passed, build-finds, joined-passed, joined-finds}
 use Rattle.sight.specs.Types.{Panel, Plane, Position, At, Nowhere}
 use Rattle.display.specs.Displayed.{addressOf}

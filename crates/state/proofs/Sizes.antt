@@ -3,9 +3,10 @@ use mathlib.Core.Path.{_≡_, ap, _∙_}
 use mathlib.Core.Bool.{Bool, true, false, cond}
 use mathlib.Core.Logic.{⊎-elim}
 use Prim.Native.Nat.{ℕ, _-_, _*_, _%_, _^_, _≤_}
-use native.Mathlib.Nat.{mul-le-mul, mod-lt, min-eq-left}
+use native.Mathlib.Nat.{mul-le-mul, mod-lt}
 use native.Mathlib.Omega.{arith}
 use Rattle.ground.specs.Bytes.{fullOf}
+use Rattle.ground.proofs.Lows.{full-low}
 use Rattle.state.specs.Types.{Panel}
 use Rattle.state.specs.State.{validPanel}
 use Rattle.state.specs.Sizes.{rowSize, frameSize, cellCount, validSize}
@@ -35,7 +36,7 @@ module _ (p : Panel) where
     some-width = ⊎-elim (λ e. omega arith) (λ e. omega arith) (panelled p v .width)
 
     pub full-dots : fullOf (p .width) ≡ 2 ^ p .width - 1
-    full-dots = ap (λ (w : ℕ). 2 ^ w - 1) (min-eq-left (narrow (panelled p v)))
+    full-dots = full-low (p .width) (panelled p v .width)
 
     pub rest-few : (x : ℕ) → x % p .width ≤ p .width - 1
     rest-few x = omega (arith, mod-lt x some-width)

@@ -28,7 +28,7 @@ byte-at-requires : tie.Need-byte-at-requires Inv-loop μ-loop
 byte-at-requires c κs = c .before .before .before .before .before .before .before .pre .1
 
 low-requires : tie.Need-low-requires Inv-loop μ-loop
-low-requires c κs = c .before .before .before .before .before .before .before .before .pre .0
+low-requires c κs = search needs
 
 slice-write-graphic : tie.Need-slice-write-graphic Inv-loop μ-loop
 slice-write-graphic c = omega (arith, as-long _ _ (c .before .before .before .loop .inv .filled))

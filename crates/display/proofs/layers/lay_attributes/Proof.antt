@@ -5,6 +5,7 @@ use native.Mathlib.Omega.{arith}
 use lib.ListN.{length}
 use Rattle.ground.proofs.Lists.{build-length}
 use Rattle.ground.proofs.Filling.{as-long, at-end}
+use Rattle.ground.proofs.Lows.{full-low}
 use Rattle.display.proofs.Passes.{Shading, shades-from, shades-on, still, within, all-shaded}
 use borrow.Author.Needs.{needs}
 use Rattle.display.proofs.layers.lay_attributes.Statement.{statement}
@@ -46,7 +47,7 @@ sub-cells c =
     let a = s .args in
     let w = c .before .before .before .before .loop .inv .going in
     let t = c .before .before .before .loop-test .taken in
-    omega (arith, still _ _ _ w t, within (a .panel) (a .display) (a .mem .now) (a .rom .now) (a .row) (a .column) (a .lit .now) (a .dark .now) (s .pre .1 .0 .0) (s .pre .1 .0 .1) (c .before .before .before .before .before .before .full .ensures) (c .before .before .before .before .before .address .ensures) (s .pre .1 .1) t)
+    omega (arith, still _ _ _ w t, within (a .panel) (a .display) (a .mem .now) (a .rom .now) (a .row) (a .column) (a .lit .now) (a .dark .now) (s .pre .1 .0 .0) (s .pre .1 .0 .1) (c .before .before .before .before .before .before .full .ensures ∙ full-low _ (s .pre .0 .width)) (c .before .before .before .before .before .address .ensures) (s .pre .1 .1) t)
 
 shared-slice-read-cells-2 : tie.Need-shared-slice-read-cells-2 Inv-loop μ-loop
 shared-slice-read-cells-2 c =
@@ -78,7 +79,7 @@ returns : tie.Need-returns Inv-loop μ-loop
 returns c =
     let s = c .before .before .before .before .before .before .before .before .before in
     let a = s .args in
-    all-shaded (a .panel) (a .display) (a .mem .now) (a .rom .now) (a .row) (a .column) (a .lit .now) (a .dark .now) (s .pre .1 .0 .0) (s .pre .1 .0 .1) (c .before .before .before .full .ensures) (c .before .before .address .ensures) (s .pre .1 .1) _ (at-end _ _ (c .before .loop .inv .going .filled) _ refl (c .loop-test .left))
+    all-shaded (a .panel) (a .display) (a .mem .now) (a .rom .now) (a .row) (a .column) (a .lit .now) (a .dark .now) (s .pre .1 .0 .0) (s .pre .1 .0 .1) (c .before .before .before .full .ensures ∙ full-low _ (s .pre .0 .width)) (c .before .before .address .ensures) (s .pre .1 .1) _ (at-end _ _ (c .before .loop .inv .going .filled) _ refl (c .loop-test .left))
 
 pub lay-attributes-spec : {M : Type 1} → statement M
 lay-attributes-spec =

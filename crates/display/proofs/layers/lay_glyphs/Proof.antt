@@ -29,7 +29,7 @@ glyph-requires : tie.Need-glyph-requires Inv-loop μ-loop
 glyph-requires c κs = search needs
 
 low-requires : tie.Need-low-requires Inv-loop μ-loop
-low-requires c κs = c .before .before .before .before .before .before .before .before .pre .width
+low-requires c κs = search needs
 
 slice-write-cells : tie.Need-slice-write-cells Inv-loop μ-loop
 slice-write-cells c = omega (arith, as-long _ _ (c .before .before .before .before .loop .inv .filled))

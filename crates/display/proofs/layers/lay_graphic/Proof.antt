@@ -32,7 +32,7 @@ byte-at-requires : tie.Need-byte-at-requires Inv-loop μ-loop
 byte-at-requires c κs = c .before .before .before .before .before .before .before .before .before .pre .0 .memory
 
 low-requires : tie.Need-low-requires Inv-loop μ-loop
-low-requires c κs = c .before .before .before .before .before .before .before .before .before .before .pre .0 .width
+low-requires c κs = search needs
 
 mix-requires : tie.Need-mix-requires Inv-loop μ-loop
 mix-requires c κs = search needs

@@ -1,11 +1,12 @@
 -- `shades` meets its contract: code by code, the table read once.
-use mathlib.Core.Path.{refl}
+use mathlib.Core.Path.{refl, _∙_}
 use Prim.Native.Nat.{_-_, _^_}
 use native.Mathlib.Omega.{arith}
 use lib.Pow.{pow-pos, ones-lt}
 use Rattle.ground.proofs.Filling.{Filled, none-yet, as-long, one-more, at-end}
 use Rattle.state.specs.Attribute.{attributed}
 use Rattle.state.proofs.Tables.{in-table}
+use Rattle.ground.proofs.Lows.{full-low}
 use Rattle.display.proofs.Passes.{by-table}
 use borrow.Author.Needs.{needs}
 use Rattle.display.proofs.layers.shades.Statement.{statement}
@@ -33,7 +34,7 @@ array-copy-out-look : tie.Need-array-copy-out-look Inv-loop μ-loop
 array-copy-out-look c = c .loop-test .taken
 
 look-shows-requires : tie.Need-look-shows-requires Inv-loop μ-loop
-look-shows-requires c κs = let s = c .before .before .before .before .before .before .before in (s .pre .0, rw (c .before .before .before .full .ensures) (ones-lt (s .args .width)))
+look-shows-requires c κs = let s = c .before .before .before .before .before .before .before in (s .pre .0, rw (c .before .before .before .full .ensures ∙ full-low _ (s .pre .0)) (ones-lt (s .args .width)))
 
 slice-write-lit : tie.Need-slice-write-lit Inv-loop μ-loop
 slice-write-lit c = let s = c .before .before .before .before .before .before .before .before in omega (arith, s .pre .1, as-long _ _ (c .before .before .before .loop .inv .0))
@@ -56,7 +57,7 @@ loop-again c =
     let w = c .before .before .before .before .loop .inv in
     let l = c .before .before .before .loop-test .taken in
     let e = in-table _ _ (c .before .before .before .before .before .before .looks .ensures) l in
-    (one-more _ _ (w .0) (omega (arith, s .pre .1)) (by-table _ _ _ _ l e (c .before .look-shows .ensures) (c .before .before .before .before .before .full .ensures)), one-more _ _ (w .1) (omega (arith, s .pre .1)) (by-table _ _ _ _ l e (c .look-shows2 .ensures) refl))
+    (one-more _ _ (w .0) (omega (arith, s .pre .1)) (by-table _ _ _ _ l e (c .before .look-shows .ensures) (c .before .before .before .before .before .full .ensures ∙ full-low _ (s .pre .0))), one-more _ _ (w .1) (omega (arith, s .pre .1)) (by-table _ _ _ _ l e (c .look-shows2 .ensures) refl))
 
 same-length : tie.Need-same-length Inv-loop μ-loop
 same-length c = as-long _ _ (c .before .loop .inv .0)

@@ -3,6 +3,7 @@ use mathlib.Core.Path.{_≡_, ap, _∙_}
 use native.Mathlib.Omega.{arith}
 use lib.ListN.{length}
 use Rattle.ground.proofs.Lists.{build-length}
+use Rattle.ground.proofs.Lows.{full-low}
 use Rattle.display.proofs.Passes.{inside, laid, unlaid}
 use borrow.Author.Needs.{needs}
 use Rattle.display.proofs.row.lay_cursor.Statement.{statement}
@@ -33,7 +34,7 @@ same-length c = search needs
 returns : tie.Need-returns
 returns c =
     let s = c .before .before .before .before .before .before .before .before in
-    laid _ _ _ _ _ (c .before .before .before .before .cursor-lit .ensures) (c .before .before .cursor-covers .ensures) (c .before .if1 .taken) (s .pre .1) (c .full .ensures)
+    laid _ _ _ _ _ (c .before .before .before .before .cursor-lit .ensures) (c .before .before .cursor-covers .ensures) (c .before .if1 .taken) (s .pre .1) (c .full .ensures ∙ full-low _ (s .pre .0 .width))
 
 returns-2 : tie.Need-returns-2
 returns-2 c =
