@@ -31,6 +31,13 @@ drawable p d mem rom i j l =
       characters = eqb-true (length rom) 1024 (both-right (eqb (length mem) 65536) _ l);
     }
 
+-- a frame that is painted, for whoever knows that it fits
+pub painted-is : (p : Panel) (r : Registers) (mem rom frame : List ℕ) → (validPanel p && validRegisters r) ≡ true → (lentLengths mem rom && frameFits p frame) ≡ true
+    → paintOf p r mem rom frame ≡ painted (replyOf 0) (frameOf p (r .display) mem rom)
+unfolding paintOf
+painted-is p r mem rom frame v l =
+    λ k. cond (v k) (cond (l k) (painted (replyOf 0) (frameOf p (r .display) mem rom)) (painted (replyOf 2) frame)) (painted (replyOf 1) frame)
+
 -- a frame painted
 module _ (p : Panel) (r : Registers) (mem rom frame : List ℕ) {a b : Bool} (i : a ≡ validPanel p) (j : b ≡ validRegisters r) where
   painting : (v : Bool) → (a && b) ≡ v

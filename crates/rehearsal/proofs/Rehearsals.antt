@@ -16,7 +16,7 @@ use Rattle.state.specs.Sizes.{frameSize, validSize}
 use Rattle.state.proofs.Sizes.{is-size}
 use Rattle.state.specs.State.{validPanel, validRegisters}
 use Rattle.display.specs.Frame.{lentLengths, frameFits, Painted, painted, paintOf}
-use Rattle.display.proofs.Doors.{painting-0}
+use Rattle.display.proofs.Doors.{painted-is}
 use Rattle.controller.specs.declared.run.Ran.{Ran}
 use Rattle.controller.specs.Run.{logOf, RanAll, ranAll, runOf}
 use Rattle.book.specs.Operation.{Operation}
@@ -139,9 +139,8 @@ module _ (p : Panel) (r : Registers) (mem rom book : List ℕ) (number : ℕ) (r
             picture-is =
                 ap (λ (o : Painted). o .frame)
                 (d
-                ∙ sym
-                (painting-0 p (ran .registers) m rom frame refl refl (both (streamed .valid) (shown .valid)) refl
-                (both (both (eq-eqb (length m) 65536 long) (eq-eqb (length rom) 1024 characters)) (both-right (lentLengths mem rom) _ l)) refl))
+                ∙ painted-is p (ran .registers) m rom frame (both (streamed .valid) (shown .valid))
+                (both (both (eq-eqb (length m) 65536 long) (eq-eqb (length rom) 1024 characters)) (both-right (lentLengths mem rom) _ l)))
                 ∙ shown .frame (ran .registers .display .phase)
                 ∙ ap (pictureFrame p rom (pictureOf p os)) (shown .phase)
 

@@ -9,7 +9,7 @@ use Rattle.display.specs.Frame.{lentLengths}
 use Rattle.sight.specs.Types.{Panel, Display, Line}
 
 -- one access
-pub record Ready (p : Panel) (d : Display) (mem rom : List ℕ) : Type 0 where
+pub record Seeing (p : Panel) (d : Display) (mem rom : List ℕ) : Type 0 where
   pub panel : validPanel p ≡ true
   pub display : validDisplay d ≡ true
   pub lent : lentLengths mem rom ≡ true

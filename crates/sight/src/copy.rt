@@ -3,7 +3,7 @@ ghost use mathlib.Core.Path.{_≡_};
 ghost use Rattle.effects.specs.Machine.{machine};
 ghost use Rattle.sight.specs.Sight.{copyOf, position, copiedAll};
 ghost use Rattle.effects.specs.Effect.{withBus, withError};
-ghost use Rattle.sight.specs.Ready.{Ready};
+ghost use Rattle.sight.specs.Ready.{Seeing};
 use crate::door::sees;
 use crate::line::gather;
 use crate::line::store;
@@ -26,7 +26,7 @@ fn with_error(registers: Registers, error: bool) -> Registers
 }
 
 fn copy_row(panel: Panel, registers: Registers, mem: &mut [u8], rom: &[u8]) -> Registers
-    requires { ⌜ Ready panel (registers .display) (now mem) (now rom) ⌝ }
+    requires { ⌜ Seeing panel (registers .display) (now mem) (now rom) ⌝ }
     ensures { λ r. ⌜ machine r (now (mem .exit)) ≡ copyOf panel (now (rom .entry)) (machine registers (now (mem .entry))) (position panel registers) ⌝ }
 {
     let display = registers.display;

@@ -4,7 +4,7 @@ ghost use Prim.Native.Nat.{_+_, _-_, _<_, _≤_};
 ghost use lib.ListN.{length, take};
 ghost use Rattle.ground.specs.Lists.{build, stored};
 ghost use Rattle.display.specs.Displayed.{displayedByte};
-ghost use Rattle.sight.specs.Ready.{Ready, Gathered};
+ghost use Rattle.sight.specs.Ready.{Seeing, Gathered};
 use display::seen::row_layers;
 use state::panel::Panel;
 use state::registers::Display;
@@ -24,7 +24,7 @@ pub(crate) fn gather(
     row: usize,
     column: usize,
 ) -> Line
-    requires { ⌜ Ready panel display (now mem) (now rom) ⌝ }
+    requires { ⌜ Seeing panel display (now mem) (now rom) ⌝ }
     requires { ⌜ column < panel .columns ⌝ }
     ensures { λ r. ⌜ Gathered r (build (panel .columns - column) (λ j. displayedByte panel display (now (mem .entry)) (now (rom .entry)) row (column + j))) ⌝ }
 {

@@ -2,7 +2,7 @@
 ghost use mathlib.Core.Path.{_≡_};
 ghost use Rattle.effects.specs.Machine.{machine};
 ghost use Rattle.sight.specs.Sight.{peekOf, position, peekedOf};
-ghost use Rattle.sight.specs.Ready.{Ready};
+ghost use Rattle.sight.specs.Ready.{Seeing};
 use crate::door::sees;
 use crate::position::Position;
 use crate::position::find;
@@ -12,7 +12,7 @@ use state::registers::Bus;
 use state::registers::Registers;
 
 fn look(panel: Panel, registers: Registers, mem: &[u8], rom: &[u8]) -> Bus
-    requires { ⌜ Ready panel (registers .display) (now mem) (now rom) ⌝ }
+    requires { ⌜ Seeing panel (registers .display) (now mem) (now rom) ⌝ }
     ensures { λ r. ⌜ r ≡ peekOf panel (now (rom .entry)) (machine registers (now (mem .entry))) (position panel registers) ⌝ }
 {
     let display = registers.display;
