@@ -17,14 +17,15 @@ use Rattle.display.specs.Frame.{frameFits, replyOf}
 use Rattle.book.specs.Screen.{Screen, screen, refused, screenOf}
 use Rattle.book.proofs.Numbers.{refusal-number}
 use Rattle.picture.specs.Drawn.{Drew, drewAll, planesFit, drawScreen, drawOf}
-use Rattle.printed.specs.Printed.{panelIn, characters, refusalLine, printed, printText}
+use Rattle.printed.specs.declared.told.Told.{Told}
+use Rattle.printed.specs.Printed.{panelIn, refusalLine, printed, printText, Reported, reported}
 use Rattle.printed.specs.Screen.{frameBytes, pictureText, framed, printPictureOf}
 use Rattle.printed.proofs.Screens.{line-alone, may-print}
-use Rattle.printed.proofs.Texts.{printed-within, printed-settled}
-use Rattle.draw.specs.Drawing.{phaseIn, drawn, drawText, drawTextOf, cellsOf, Cut}
+use Rattle.printed.proofs.Texts.{printed-within, reported-settled}
+use Rattle.draw.specs.Drawing.{phaseIn, screenNumber, drawn, drawText, drawTextOf, cellsOf, Cut}
 
 -- the parts lent are the panel's
-pub cut-fits : (p : Panel) {size bytes : ℕ} {rom g t l f : List ℕ} → size ≡ cellsOf p → bytes ≡ frameBytes p → 1024 ≡ length rom → length g ≡ 8 * size
+pub cut-fits : (p : Panel) {size bytes : ℕ} {rom g t l f : List ℕ} → size ≡ cellsOf p → bytes ≡ frameBytes p → length rom ≡ 1024 → length g ≡ 8 * size
     → length t ≡ size → length l ≡ 1024 → length f ≡ bytes → Cut p rom g t l f
 cut-fits p {size} {bytes} {rom} {g} {t} {l} {f} i j a b c d e =
     record {
@@ -33,7 +34,7 @@ cut-fits p {size} {bytes} {rom} {g} {t} {l} {f} i j a b c d e =
           let n : bytes ≡ 8 * p .lines * rowBytes (p .columns) (p .width) = j ∙ ap (λ (x : Bool). cond x (8 * p .lines * rowBytes (p .columns) (p .width)) 0) v in
           both
           (both
-          (both (both (eq-eqb (length rom) 1024 (sym a)) (eq-eqb (length g) (8 * p .lines * p .columns) (b ∙ ap (λ (m : ℕ). 8 * m) s ∙ sym (mul-assoc 8 (p .lines) (p .columns)))))
+          (both (both (eq-eqb (length rom) 1024 a) (eq-eqb (length g) (8 * p .lines * p .columns) (b ∙ ap (λ (m : ℕ). 8 * m) s ∙ sym (mul-assoc 8 (p .lines) (p .columns)))))
           (eq-eqb (length t) (p .lines * p .columns) (c ∙ s)))
           (eq-eqb (length l) 1024 d))
           (eq-eqb (length f) (8 * p .lines * rowBytes (p .columns) (p .width)) (e ∙ n));
@@ -94,21 +95,36 @@ module _ (p : Panel) (book : List ℕ) (number : ℕ) (rom : List ℕ) (normal :
   printed-is h k out =
       λ i. printText (framed-is (validPanel p) refl h k i && eqb (length out) 131072) (text-is (validPanel p) refl h i) out
 
+  -- and the number told is the screen's
+  screen-number : (s : Screen) → drawScreen p rom normal g t l f s .reply .number ≡ screenNumber s
+  screen-number (screen os) = refl
+  screen-number (refused n place) = refl
+
+  number-is : (v : Bool) → validPanel p ≡ v → {d : Drew} → d ≡ drawOf p book number rom normal g t l f → d .reply .number ≡ screenNumber (came v)
+  number-is true v h = ap (λ (d : Drew). d .reply .number) (h ∙ drew-is v) ∙ screen-number (screenOf p book number)
+  number-is false v h = ap (λ (d : Drew). d .reply .number) (h ∙ drew-1 v)
+
 -- the whole text
 pub draw-all : (input out : List ℕ) {p : Panel} {number : ℕ} {normal : Bool} {book rom g t l f : List ℕ} → p ≡ panelIn input → number ≡ getD input 3 0 → normal ≡ phaseIn input
-    → book ≡ drop 5 input → rom ≡ characters → Cut p rom g t l f → {r : Reply} {a b c e : List ℕ} → drewAll r a b c e ≡ drawOf p book number rom normal g t l f
-    → length e ≡ length f → {w : ℕ} {o : List ℕ} → printed w o ≡ printPictureOf p (r .number) (r .place) e out → printed w o ≡ drawTextOf input out
+    → book ≡ drop 5 input → Cut p rom g t l f → {r : Reply} {a b c e : List ℕ} → drewAll r a b c e ≡ drawOf p book number rom normal g t l f
+    → length e ≡ length f → {w : ℕ} {o : List ℕ} → printed w o ≡ printPictureOf p (r .number) (r .place) e out
+    → reported (record { count = w; number = r .number }) o ≡ drawTextOf rom input out
 unfolding drawTextOf drawText
-draw-all input out {p} {number} {normal} {book} {rom} {g} {t} {l} {f} i j k m n fits h s x =
+draw-all input out {p} {number} {normal} {book} {rom} {g} {t} {l} {f} i j k m fits {r} h s {w} {o} x =
+    let text =
     x ∙ printed-is p book number rom normal g t l f fits h s out
-    ∙ (λ q. printText (eqb (length out) 131072) (drawn (i q) (n q) (k q) (cond (validPanel (i q)) (screenOf (i q) (m q) (j q)) (refused 1 0))) out)
+    ∙ (λ q. printText (eqb (length out) 131072) (drawn (i q) rom (k q) (cond (validPanel (i q)) (screenOf (i q) (m q) (j q)) (refused 1 0))) out) in
+    let told =
+    number-is p book number rom normal g t l f fits (validPanel p) refl h
+    ∙ (λ q. screenNumber (cond (validPanel (i q)) (screenOf (i q) (m q) (j q)) (refused 1 0))) in
+    λ q. record { text = text q; number = told q }
 
-module _ (input out : List ℕ) where
+module _ (rom input out : List ℕ) where
   -- the text stands in its room
-  pub draw-within : {b : List ℕ} {w : ℕ} → printed w b ≡ drawTextOf input out → w ≤ length b
+  pub draw-within : {t : Told} {b : List ℕ} → reported t b ≡ drawTextOf rom input out → t .count ≤ length b
   unfolding drawTextOf
-  draw-within h = printed-within (eqb (length out) 131072) (drawText input) out h
+  draw-within h = printed-within (eqb (length out) 131072) (drawText rom input) out (ap (λ (o : Reported). o .text) h)
 
   -- two replies that meet the promise are equal
-  pub draw-text-settled : {n k : ℕ} {b c : List ℕ} → printed n b ≡ drawTextOf input out → printed k c ≡ drawTextOf input out → (n ≡ k) × (b ≡ c)
-  draw-text-settled h k = printed-settled h k
+  pub draw-text-settled : {n k : Told} {b c : List ℕ} → reported n b ≡ drawTextOf rom input out → reported k c ≡ drawTextOf rom input out → (n ≡ k) × (b ≡ c)
+  draw-text-settled h k = reported-settled h k

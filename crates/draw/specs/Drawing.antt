@@ -11,11 +11,16 @@ use Rattle.display.specs.Frame.{frameFits}
 use Rattle.book.specs.Screen.{Screen, screen, refused, screenOf}
 use Rattle.picture.specs.Picture.{pictureOf, pictureFrame}
 use Rattle.picture.specs.Drawn.{planesFit}
-use Rattle.printed.specs.Printed.{panelIn, characters, refusalLine, frameLines, Printed, printText}
+use Rattle.printed.specs.Printed.{panelIn, refusalLine, frameLines, Reported, printText}
 
 -- the fifth byte: 0 is off, any other normal
 abbrev pub phaseIn : List ℕ → Bool
 phaseIn input = not (eqb (getD input 4 0) 0)
+
+-- a screen's refusal
+abbrev pub screenNumber : Screen → ℕ
+screenNumber (screen os) = 0
+screenNumber (refused n place) = n
 
 -- the refusal line, and with refusal 0 the rows of the screen's picture in that phase
 abbrev pub drawn : Panel → List ℕ → Bool → Screen → List ℕ
@@ -23,14 +28,17 @@ drawn p rom normal (screen os) = refusalLine 0 0 ++ frameLines p (pictureFrame p
 drawn p rom normal (refused n place) = refusalLine n place
 
 -- C, L, w, number, phase, book: 1 where the panel is not valid, then what the screen comes to
-unfoldable pub drawText : List ℕ → List ℕ
-drawText input =
-    drawn (panelIn input) characters (phaseIn input)
-    (cond (validPanel (panelIn input)) (screenOf (panelIn input) (drop 5 input) (getD input 3 0)) (refused 1 0))
+abbrev pub screenIn : List ℕ → Screen
+screenIn input =
+    cond (validPanel (panelIn input)) (screenOf (panelIn input) (drop 5 input) (getD input 3 0)) (refused 1 0)
 
--- lent: 131,072 bytes of text, which suffice
-unfoldable pub drawTextOf : List ℕ → List ℕ → Printed
-drawTextOf input out = printText (eqb (length out) 131072) (drawText input) out
+unfoldable pub drawText : List ℕ → List ℕ → List ℕ
+drawText rom input = drawn (panelIn input) rom (phaseIn input) (screenIn input)
+
+-- lent: 131,072 bytes of text, which suffice; the number is the screen's
+unfoldable pub drawTextOf : List ℕ → List ℕ → List ℕ → Reported
+drawTextOf rom input out =
+    record { text = printText (eqb (length out) 131072) (drawText rom input) out; number = screenNumber (screenIn input) }
 
 -- the cells of a valid panel
 abbrev pub cellsOf : Panel → ℕ

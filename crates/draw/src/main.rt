@@ -1,8 +1,9 @@
 // The draw program: a panel, a screen's number, a phase and a book from standard input; to standard output the screen's refusal and its
-// picture.
+// picture. Started with an argument it takes the character ROM before them.
 ghost use mathlib.Core.Path.{_≡_};
 ghost use Prim.Native.Nat.{_≤_};
-ghost use Rattle.printed.specs.Printed.{panelIn, characters, printed};
+ghost use lib.ListN.{length};
+ghost use Rattle.printed.specs.Printed.{panelIn, reported};
 ghost use Rattle.draw.specs.Drawing.{drawTextOf, cellsOf, Cut};
 use libc::STDIN_FILENO;
 use libc::STDOUT_FILENO;
@@ -13,6 +14,10 @@ use printed::input::panel_in;
 use printed::input::rest_in;
 use printed::screen::frame_bytes;
 use printed::screen::print_picture;
+use printed::told::Told;
+use report::read_exact;
+use report::read_whole;
+use report::report;
 use state::panel::Panel;
 
 // A panel's cells; one that is not valid is refused before they count.
@@ -37,10 +42,10 @@ fn print_screen(
     glyphs: &mut [u8],
     frame: &mut [u8],
     out: &mut [u8],
-) -> usize
-    requires { ⌜ (panel ≡ panelIn (now input)) × (now rom ≡ characters) ⌝ }
+) -> Told
+    requires { ⌜ panel ≡ panelIn (now input) ⌝ }
     requires { ⌜ Cut panel (now rom) (now graphic) (now codes) (now glyphs) (now frame) ⌝ }
-    ensures { λ r. ⌜ printed r (now (out .exit)) ≡ drawTextOf (now (input .entry)) (now (out .entry)) ⌝ }
+    ensures { λ r. ⌜ reported r (now (out .exit)) ≡ drawTextOf (now (rom .entry)) (now (input .entry)) (now (out .entry)) ⌝ }
 {
     let number = byte_in(input, 3) as usize;
     let phase = byte_in(input, 4) != 0;
@@ -56,19 +61,23 @@ fn print_screen(
         glyphs,
         frame,
     );
-    print_picture(panel, reply.number, reply.place, frame, out)
+    let count = print_picture(panel, reply.number, reply.place, frame, out);
+    Told {
+        count,
+        number: reply.number,
+    }
 }
 
-// The program's whole text at the start of `out`, and its length; 0 where the room has another length than 131,072. Planes and frame
-// are the parts of the largest ones that the panel takes.
-fn draw_text(input: &[u8], out: &mut [u8]) -> usize
-    ensures { λ r. ⌜ printed r (now (out .exit)) ≡ drawTextOf (now (input .entry)) (now (out .entry)) ⌝ }
+// The program's whole text at the start of `out`, its length and the screen's number; nothing where the room has another length than
+// 131,072. Planes and frame are the parts of the largest ones that the panel takes.
+fn draw_text(rom: &[u8], input: &[u8], out: &mut [u8]) -> Told
+    requires { ⌜ length (now rom) ≡ 1024 ⌝ }
+    ensures { λ r. ⌜ reported r (now (out .exit)) ≡ drawTextOf (now (rom .entry)) (now (input .entry)) (now (out .entry)) ⌝ }
 {
     let panel = panel_in(input);
     let size = cells(panel);
     let rows = 8 * size;
     let bytes = frame_bytes(panel);
-    let rom = character_rom();
     let mut graphic = [0u8; 10240];
     let mut codes = [0u8; 1280];
     let mut glyphs = [0u8; 1024];
@@ -76,7 +85,7 @@ fn draw_text(input: &[u8], out: &mut [u8]) -> usize
     print_screen(
         input,
         panel,
-        &rom,
+        rom,
         &mut graphic[..rows],
         &mut codes[..size],
         &mut glyphs,
@@ -85,11 +94,31 @@ fn draw_text(input: &[u8], out: &mut [u8]) -> usize
     )
 }
 
+// With an argument the ROM is the input's first part, which has to be whole.
+fn take_rom(rom: &mut [u8]) -> bool {
+    if os::arg_count() > 1 {
+        read_exact(STDIN_FILENO, rom)
+    } else {
+        true
+    }
+}
+
 // One byte past the limit shows that a book is too long.
 fn main() {
+    let mut rom = character_rom();
+    if !take_rom(&mut rom) {
+        return;
+    }
     let mut input = [0u8; 32774];
-    let got = io::read_full(STDIN_FILENO, &mut input);
+    let got = read_whole(STDIN_FILENO, &mut input);
+    if got.failed {
+        return;
+    }
+    let end = got.count;
     let mut out = [0u8; 131072];
-    let count = draw_text(&input[..got], &mut out);
-    io::write_all(STDOUT_FILENO, &out[..count]);
+    let told = draw_text(&rom, &input[..end], &mut out);
+    let count = told.count;
+    if io::write_all(STDOUT_FILENO, &out[..count]) {
+        report(told.number);
+    }
 }

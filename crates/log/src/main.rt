@@ -2,11 +2,20 @@
 use libc::STDIN_FILENO;
 use libc::STDOUT_FILENO;
 use printed::print::print;
+use report::read_whole;
+use report::report;
 
 fn main() {
     let mut input = [0u8; 16387];
-    let got = io::read_full(STDIN_FILENO, &mut input);
+    let got = read_whole(STDIN_FILENO, &mut input);
+    if got.failed {
+        return;
+    }
+    let end = got.count;
     let mut out = [0u8; 131072];
-    let count = print(&input[..got], &mut out);
-    io::write_all(STDOUT_FILENO, &out[..count]);
+    let told = print(&input[..end], &mut out);
+    let count = told.count;
+    if io::write_all(STDOUT_FILENO, &out[..count]) {
+        report(told.number);
+    }
 }

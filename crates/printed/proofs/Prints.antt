@@ -26,12 +26,13 @@ use Rattle.controller.specs.Ready.{standing}
 use Rattle.controller.proofs.Laws.{Sounds, sounds, sounds-valid}
 use Rattle.controller.proofs.Goings.{Kept}
 use Rattle.controller.proofs.Splitting.{running-kept}
+use Rattle.printed.specs.declared.told.Told.{Told}
 use Rattle.printed.specs.Put.{Put}
-use Rattle.printed.specs.Printed.{panelIn, logIn, characterRow, characters, ranIn, textOf, logText, ranLine, frameLine, frameLines, printed, printOf}
+use Rattle.printed.specs.Printed.{panelIn, logIn, characterRow, characters, ranIn, textOf, logText, ranLine, frameLine, frameLines, Reported, reported, printOf}
 use Rattle.printed.specs.Text.{hexLineAt, hexLines}
 use Rattle.printed.specs.Ready.{Draws, Ready}
 use Rattle.printed.proofs.Puts.{put-same, put-both, dot-line-length}
-use Rattle.printed.proofs.Texts.{printed-none, printed-all, printed-within, printed-settled}
+use Rattle.printed.proofs.Texts.{printed-none, printed-all, printed-within, reported-settled}
 
 -- the log, cut out between two places of the input
 pub log-is : (l : List ℕ) {s e : ℕ} → s ≡ min 3 (length l) → e ≡ min 16387 (length l) → take (e - s) (drop s l) ≡ logIn l
@@ -188,21 +189,25 @@ ready input {p} {a} {mem} {rom} {answers} i e l =
     }
 
 module _ (input out : List ℕ) where
-  pub print-none : (length out ≡ 131072 → ⊥) → printed 0 out ≡ printOf input out
+  pub print-none : (length out ≡ 131072 → ⊥) → reported (record { count = 0; number = 2 }) out ≡ printOf input out
   unfolding printOf
-  print-none h = printed-none (eqb (length out) 131072) (logText input) out (ne-eqb (length out) 131072 h)
+  print-none h =
+      let e = ne-eqb (length out) 131072 h in
+      λ k. record { text = printed-none (eqb (length out) 131072) (logText input) out e k; number = cond (sym e k) (ranIn input .ran .number) 2 }
 
   pub print-all : length out ≡ 131072 → {p : Panel} {c : List ℕ} {e : RanAll} → p ≡ panelIn input → c ≡ characters → e ≡ ranIn input
-      → {b : List ℕ} {w : ℕ} → Put out 0 (textOf p c e) b w → w ≤ 131072 → printed w b ≡ printOf input out
+      → {b : List ℕ} {w : ℕ} → Put out 0 (textOf p c e) b w → w ≤ 131072 → reported (record { count = w; number = e .ran .number }) b ≡ printOf input out
   unfolding printOf logText
   print-all h i j l x s =
-      printed-all (eqb (length out) 131072) (logText input) out (eq-eqb (length out) 131072 h) (put-same (λ k. textOf (i k) (j k) (l k)) x)
-      (omega arith)
+      let r = eq-eqb (length out) 131072 h in
+      let t = printed-all (eqb (length out) 131072) (logText input) out r (put-same (λ k. textOf (i k) (j k) (l k)) x) (omega arith) in
+      let n = ap (λ (o : RanAll). o .ran .number) l ∙ (λ k. cond (sym r k) (ranIn input .ran .number) 2) in
+      λ k. record { text = t k; number = n k }
 
   -- the text stands in its room
-  pub print-within : {b : List ℕ} {w : ℕ} → printed w b ≡ printOf input out → w ≤ length b
+  pub print-within : {t : Told} {b : List ℕ} → reported t b ≡ printOf input out → t .count ≤ length b
   unfolding printOf
-  print-within h = printed-within (eqb (length out) 131072) (logText input) out h
+  print-within h = printed-within (eqb (length out) 131072) (logText input) out (ap (λ (o : Reported). o .text) h)
 
 -- not refused by 1
 pub not-first : (a b : Bool) → (a || b) ≡ false → a ≡ false
@@ -217,5 +222,5 @@ module _ (p : Panel) (a : Ran) {mem rom answers frame out : List ℕ} (k : Ready
   ready-panel = panelled p (both-left (validPanel p) (validRegisters (a .registers)) ready-valid)
 
 -- two replies that meet the promise are equal
-pub print-settled : {n k : ℕ} {b c : List ℕ} (input out : List ℕ) → printed n b ≡ printOf input out → printed k c ≡ printOf input out → (n ≡ k) × (b ≡ c)
-print-settled input out h k = printed-settled h k
+pub print-settled : {n k : Told} {b c : List ℕ} (input out : List ℕ) → reported n b ≡ printOf input out → reported k c ≡ printOf input out → (n ≡ k) × (b ≡ c)
+print-settled input out h k = reported-settled h k

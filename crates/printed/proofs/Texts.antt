@@ -6,8 +6,9 @@ use Prim.Native.Nat.{ℕ, _≤_}
 use native.Mathlib.Omega.{arith}
 use lib.ListN.{length, drop, length-append}
 use Rattle.ground.proofs.Tests.{cond-has, settled}
+use Rattle.printed.specs.declared.told.Told.{Told}
 use Rattle.printed.specs.Put.{Put}
-use Rattle.printed.specs.Printed.{Printed, printed, printText}
+use Rattle.printed.specs.Printed.{Printed, printed, printText, Reported, reported}
 use Rattle.printed.proofs.Puts.{put-start}
 
 module _ (lent : Bool) (text out : List ℕ) where
@@ -31,3 +32,8 @@ pub printed-settled : {n k : ℕ} {b c : List ℕ} {o : Printed} → printed n b
 printed-settled h k =
     let e = settled h k in
     (ap (λ (x : Printed). x .count) e, ap (λ (x : Printed). x .out) e)
+
+pub reported-settled : {n k : Told} {b c : List ℕ} {o : Reported} → reported n b ≡ o → reported k c ≡ o → (n ≡ k) × (b ≡ c)
+reported-settled h k =
+    let e = settled h k in
+    ((λ i. record { count = e i .text .count; number = e i .number }), ap (λ (x : Reported). x .text .out) e)

@@ -11,6 +11,7 @@ use Rattle.display.specs.Frame.{frameOf}
 use Rattle.controller.specs.Types.{Panel}
 use Rattle.controller.specs.declared.run.Ran.{Ran}
 use Rattle.controller.specs.Run.{RanAll, runOf}
+use Rattle.printed.specs.declared.told.Told.{Told}
 use Rattle.printed.specs.Text.{ascii, newline, decimal, hexLines, dotLine}
 
 -- C, L, w; a missing panel byte counts as 0
@@ -74,6 +75,18 @@ printed count out = record { count = count; out = out }
 abbrev pub printText : Bool → List ℕ → List ℕ → Printed
 printText lent text out = cond lent (printed (length text) (text ++ drop (length text) out)) (printed 0 out)
 
--- lent: 131,072 bytes of text, which suffice
-unfoldable pub printOf : List ℕ → List ℕ → Printed
-printOf input out = printText (eqb (length out) 131072) (logText input) out
+-- a program's reply: its text in the lent room, and the refusal number that it tells
+pub record Reported : Type 0 where
+  pub text : Printed
+  pub number : ℕ
+
+abbrev pub reported : Told → List ℕ → Reported
+reported r out = record { text = printed (r .count) out; number = r .number }
+
+-- lent: 131,072 bytes of text, which suffice; else nothing is printed, and the number is 2
+unfoldable pub printOf : List ℕ → List ℕ → Reported
+printOf input out =
+    record {
+      text = printText (eqb (length out) 131072) (logText input) out;
+      number = cond (eqb (length out) 131072) (ranIn input .ran .number) 2;
+    }

@@ -7,7 +7,7 @@ ghost use Rattle.ground.specs.Packing.{rowBytes};
 ghost use Rattle.display.specs.Frame.{frameOf};
 ghost use Rattle.controller.specs.Run.{ranAll};
 ghost use Rattle.printed.specs.Put.{Put};
-ghost use Rattle.printed.specs.Printed.{characters, ranIn, frameLines, textOf, printed, printOf};
+ghost use Rattle.printed.specs.Printed.{characters, ranIn, frameLines, textOf, reported, printOf};
 ghost use Rattle.printed.specs.Ready.{Draws, Ready};
 use crate::fill::character_rom;
 use crate::fill::empty_memory;
@@ -17,6 +17,7 @@ use crate::input::panel_in;
 use crate::put::put_first_line;
 use crate::put::put_frame_lines;
 use crate::put::put_hex_lines;
+use crate::told::Told;
 use controller::run::Ran;
 use controller::run::run;
 use display::frame::paint;
@@ -83,9 +84,9 @@ fn run_log(input: &[u8], memory: &mut [u8], rom: &[u8], answers: &mut [u8]) -> R
     run(panel, registers, memory, rom, log, log.len() / 2, answers)
 }
 
-// The whole text at the start of `out`, and its length; 0 where the room has another length than 131,072.
-pub fn print(input: &[u8], out: &mut [u8]) -> usize
-    ensures { λ r. ⌜ printed r (now (out .exit)) ≡ printOf (now (input .entry)) (now (out .entry)) ⌝ }
+// The whole text at the start of `out`, its length and the run's number; 0 and 2 where the room has another length than 131,072.
+pub fn print(input: &[u8], out: &mut [u8]) -> Told
+    ensures { λ r. ⌜ reported r (now (out .exit)) ≡ printOf (now (input .entry)) (now (out .entry)) ⌝ }
 {
     if out.len() == 131072 {
         let mut memory = empty_memory();
@@ -94,8 +95,15 @@ pub fn print(input: &[u8], out: &mut [u8]) -> usize
         let mut frame = [0u8; 10240];
         let ran = run_log(input, &mut memory, &rom, &mut answers);
         let panel = panel_in(input);
-        put_ran(panel, ran, &memory, &rom, &answers, &mut frame, out)
+        let count = put_ran(panel, ran, &memory, &rom, &answers, &mut frame, out);
+        Told {
+            count,
+            number: ran.number,
+        }
     } else {
-        0
+        Told {
+            count: 0,
+            number: 2,
+        }
     }
 }

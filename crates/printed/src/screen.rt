@@ -20,7 +20,7 @@ pub fn frame_bytes(panel: Panel) -> usize
 }
 
 // A screen that was not refused has a valid panel and its frame.
-fn is_framed(panel: Panel, number: u8, frame: &[u8]) -> bool
+pub(crate) fn is_framed(panel: Panel, number: u8, frame: &[u8]) -> bool
     ensures { λ r. ⌜ r ≡ framed panel number (now (frame .entry)) ⌝ }
 {
     if number != 0 {
@@ -35,7 +35,7 @@ fn is_framed(panel: Panel, number: u8, frame: &[u8]) -> bool
 }
 
 // The rows of a screen that was not refused, behind its line.
-fn put_screen(panel: Panel, number: u8, frame: &[u8], out: &mut [u8], at: usize) -> usize
+pub(crate) fn put_screen(panel: Panel, number: u8, frame: &[u8], out: &mut [u8], at: usize) -> usize
     requires { ⌜ Lines panel number (now frame) (now out) at ⌝ }
     ensures { λ r. ⌜ Put (now (out .entry)) at (screenLines panel number (now (frame .entry))) (now (out .exit)) r ⌝ }
     ensures { λ r. ⌜ r ≤ 131072 ⌝ }

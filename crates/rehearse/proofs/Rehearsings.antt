@@ -19,11 +19,12 @@ use Rattle.writer.specs.Stream.{countOf}
 use Rattle.picture.specs.Picture.{pictureOf, pictureFrame}
 use Rattle.rehearsal.specs.declared.rehearse.Rehearsed.{Rehearsed}
 use Rattle.rehearsal.specs.Rehearsed.{Rehearsal, rehearsedAll, refusal, shownOf, rehearseScreen, rehearseOf}
-use Rattle.printed.specs.Printed.{panelIn, characters, firstLine, frameLines, printed, printText}
+use Rattle.printed.specs.declared.told.Told.{Told}
+use Rattle.printed.specs.Printed.{panelIn, firstLine, frameLines, printed, printText, Reported, reported}
 use Rattle.printed.specs.Screen.{frameBytes, rehearsalText, framed, printRehearsalOf}
 use Rattle.printed.proofs.Screens.{line-alone, may-print}
-use Rattle.printed.proofs.Texts.{printed-within, printed-settled}
-use Rattle.rehearse.specs.Rehearsing.{rehearsed, rehearseText, rehearseTextOf}
+use Rattle.printed.proofs.Texts.{printed-within, reported-settled}
+use Rattle.rehearse.specs.Rehearsing.{rehearsed, rehearsedNumber, rehearseText, rehearseTextOf}
 
 abbrev textOf : Panel → Rehearsal → List ℕ
 textOf p x = rehearsalText p (x .rehearsed .pairs) (x .rehearsed .number) (x .rehearsed .place) (x .frame)
@@ -56,6 +57,15 @@ module _ (p : Panel) (book : List ℕ) (number : ℕ) (mem rom room frame : List
       go false = refl
   screen-text l (refused n place) nz = refusal-text place (nz n place refl)
 
+  -- and the number told
+  screen-number : length room ≡ 2097152 → (s : Screen) → rehearseScreen p resetRegisters mem rom room frame s .rehearsed .number ≡ rehearsedNumber p s
+  screen-number l (screen os) = go (ltb (length room) (2 * countOf p os)) ∙ ap (λ (n : ℕ). cond (ltb n (2 * countOf p os)) 12 0) l
+    where
+      go : (t : Bool) → cond t (refusal p resetRegisters mem rom room frame 12 (countOf p os)) (shownOf p resetRegisters mem rom room frame os) .rehearsed .number ≡ cond t 12 0
+      go true = refl
+      go false = refl
+  screen-number l (refused n place) = refl
+
   module _ (lent : lentLengths mem rom ≡ true) (sized : length frame ≡ frameBytes p) where
     frame-fits : validPanel p ≡ true → (f : List ℕ) → length f ≡ length frame → (validPanel p && frameFits p f) ≡ true
     frame-fits v f k =
@@ -86,6 +96,10 @@ module _ (p : Panel) (book : List ℕ) (number : ℕ) (mem rom room frame : List
           ap (textOf p) (h ∙ ran-is v) ∙ screen-text l (screenOf p book number) (λ n place e. refusal-number p book number e)
       text-is false v = ap (textOf p) (h ∙ ran-1 v) ∙ refusal-text 0 (λ z. omega arith)
 
+      number-is : (v : Bool) → validPanel p ≡ v → x .number ≡ rehearsedNumber p (came v)
+      number-is true v = ap (λ (o : Rehearsal). o .rehearsed .number) (h ∙ ran-is v) ∙ screen-number l (screenOf p book number)
+      number-is false v = ap (λ (o : Rehearsal). o .rehearsed .number) (h ∙ ran-1 v)
+
       framed-is : (v : Bool) → validPanel p ≡ v → framed p (x .number) f ≡ true
       framed-is true v = may-print p (x .number) f (λ z. frame-fits v f k)
       framed-is false v =
@@ -98,23 +112,29 @@ module _ (p : Panel) (book : List ℕ) (number : ℕ) (mem rom room frame : List
       printed-is out = λ i. printText (framed-is (validPanel p) refl i && eqb (length out) 131072) (text-is (validPanel p) refl i) out
 
 -- the whole text
-pub rehearse-all : (input out mem room frame : List ℕ) {p : Panel} {number : ℕ} {r : Registers} {book rom : List ℕ} → p ≡ panelIn input → number ≡ getD input 3 0
-    → book ≡ drop 4 input → rom ≡ characters → r ≡ resetRegisters → length mem ≡ 65536 → length rom ≡ 1024 → length frame ≡ frameBytes p → length room ≡ 2097152
+pub rehearse-all : (input out mem rom room frame : List ℕ) {p : Panel} {number : ℕ} {r : Registers} {book : List ℕ} → p ≡ panelIn input → number ≡ getD input 3 0
+    → book ≡ drop 4 input → r ≡ resetRegisters → length mem ≡ 65536 → length rom ≡ 1024 → length frame ≡ frameBytes p → length room ≡ 2097152
     → {x : Rehearsed} {m b f : List ℕ} → rehearsedAll x m b f ≡ rehearseOf p r mem rom book number room frame → length f ≡ length frame
-    → {w : ℕ} {o : List ℕ} → printed w o ≡ printRehearsalOf p (x .pairs) (x .number) (x .place) f out → printed w o ≡ rehearseTextOf input out
+    → {w : ℕ} {o : List ℕ} → printed w o ≡ printRehearsalOf p (x .pairs) (x .number) (x .place) f out
+    → reported (record { count = w; number = x .number }) o ≡ rehearseTextOf rom input out
 unfolding rehearseTextOf rehearseText
-rehearse-all input out mem room frame {p} {number} {r} {book} {rom} i j k n reset a c s l h e y =
-    y
-    ∙ printed-is p book number mem rom room frame (both (eq-eqb (length mem) 65536 a) (eq-eqb (length rom) 1024 c)) s l
-    (h ∙ ap (λ (g : Registers). rehearseOf p g mem rom book number room frame) reset) e out
-    ∙ (λ q. printText (eqb (length out) 131072) (rehearsed (i q) (n q) (cond (validPanel (i q)) (screenOf (i q) (k q) (j q)) (refused 1 0))) out)
+rehearse-all input out mem rom room frame {p} {number} {r} {book} i j k reset a c s l {x} h e y =
+    let fits = both (eq-eqb (length mem) 65536 a) (eq-eqb (length rom) 1024 c) in
+    let ran = h ∙ ap (λ (g : Registers). rehearseOf p g mem rom book number room frame) reset in
+    let text =
+    y ∙ printed-is p book number mem rom room frame fits s l ran e out
+    ∙ (λ q. printText (eqb (length out) 131072) (rehearsed (i q) rom (cond (validPanel (i q)) (screenOf (i q) (k q) (j q)) (refused 1 0))) out) in
+    let told =
+    number-is p book number mem rom room frame fits s l ran e (validPanel p) refl
+    ∙ (λ q. rehearsedNumber (i q) (cond (validPanel (i q)) (screenOf (i q) (k q) (j q)) (refused 1 0))) in
+    λ q. record { text = text q; number = told q }
 
-module _ (input out : List ℕ) where
+module _ (rom input out : List ℕ) where
   -- the text stands in its room
-  pub rehearse-within : {b : List ℕ} {w : ℕ} → printed w b ≡ rehearseTextOf input out → w ≤ length b
+  pub rehearse-within : {t : Told} {b : List ℕ} → reported t b ≡ rehearseTextOf rom input out → t .count ≤ length b
   unfolding rehearseTextOf
-  rehearse-within h = printed-within (eqb (length out) 131072) (rehearseText input) out h
+  rehearse-within h = printed-within (eqb (length out) 131072) (rehearseText rom input) out (ap (λ (o : Reported). o .text) h)
 
   -- two replies that meet the promise are equal
-  pub rehearse-text-settled : {n k : ℕ} {b c : List ℕ} → printed n b ≡ rehearseTextOf input out → printed k c ≡ rehearseTextOf input out → (n ≡ k) × (b ≡ c)
-  rehearse-text-settled h k = printed-settled h k
+  pub rehearse-text-settled : {n k : Told} {b c : List ℕ} → reported n b ≡ rehearseTextOf rom input out → reported k c ≡ rehearseTextOf rom input out → (n ≡ k) × (b ≡ c)
+  rehearse-text-settled h k = reported-settled h k

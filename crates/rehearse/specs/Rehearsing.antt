@@ -9,7 +9,7 @@ use Rattle.state.specs.State.{validPanel}
 use Rattle.book.specs.Screen.{Screen, screen, refused, screenOf}
 use Rattle.writer.specs.Stream.{countOf}
 use Rattle.picture.specs.Picture.{pictureOf, pictureFrame}
-use Rattle.printed.specs.Printed.{panelIn, characters, firstLine, frameLines, Printed, printText}
+use Rattle.printed.specs.Printed.{panelIn, firstLine, frameLines, Reported, printText}
 
 -- the log program's first line with the pairs run, none of them answered, and with refusal 0 the rows of the screen's picture, the
 -- phase being normal at reset; 12 where a room of 2,097,152 bytes is too short for the stream
@@ -20,12 +20,23 @@ rehearsed p rom (screen os) =
     (firstLine (countOf p os) 0 0 0 ++ frameLines p (pictureFrame p rom (pictureOf p os) true))
 rehearsed p rom (refused n place) = firstLine 0 0 n place
 
--- C, L, w, number, book: 1 where the panel is not valid, then what the screen comes to
-unfoldable pub rehearseText : List ℕ → List ℕ
-rehearseText input =
-    rehearsed (panelIn input) characters
-    (cond (validPanel (panelIn input)) (screenOf (panelIn input) (drop 4 input) (getD input 3 0)) (refused 1 0))
+-- a screen's refusal, likewise
+abbrev pub rehearsedNumber : Panel → Screen → ℕ
+rehearsedNumber p (screen os) = cond (ltb 2097152 (2 * countOf p os)) 12 0
+rehearsedNumber p (refused n place) = n
 
--- lent: 131,072 bytes of text, which suffice
-unfoldable pub rehearseTextOf : List ℕ → List ℕ → Printed
-rehearseTextOf input out = printText (eqb (length out) 131072) (rehearseText input) out
+-- C, L, w, number, book: 1 where the panel is not valid, then what the screen comes to
+abbrev pub screenIn : List ℕ → Screen
+screenIn input =
+    cond (validPanel (panelIn input)) (screenOf (panelIn input) (drop 4 input) (getD input 3 0)) (refused 1 0)
+
+unfoldable pub rehearseText : List ℕ → List ℕ → List ℕ
+rehearseText rom input = rehearsed (panelIn input) rom (screenIn input)
+
+-- lent: 131,072 bytes of text, which suffice; the number is the screen's
+unfoldable pub rehearseTextOf : List ℕ → List ℕ → List ℕ → Reported
+rehearseTextOf rom input out =
+    record {
+      text = printText (eqb (length out) 131072) (rehearseText rom input) out;
+      number = rehearsedNumber (panelIn input) (screenIn input);
+    }

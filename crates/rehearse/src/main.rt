@@ -1,8 +1,8 @@
 // The rehearse program: a panel, a screen's number and a book from standard input; to standard output what running the screen's stream from
-// reset came to, and the frame.
+// reset came to, and the frame. Started with an argument it takes the character ROM before them.
 ghost use mathlib.Core.Path.{_≡_};
 ghost use lib.ListN.{length};
-ghost use Rattle.printed.specs.Printed.{panelIn, characters, printed};
+ghost use Rattle.printed.specs.Printed.{panelIn, reported};
 ghost use Rattle.printed.specs.Screen.{frameBytes};
 ghost use Rattle.rehearse.specs.Rehearsing.{rehearseTextOf};
 use libc::STDIN_FILENO;
@@ -14,7 +14,11 @@ use printed::input::panel_in;
 use printed::input::rest_in;
 use printed::screen::frame_bytes;
 use printed::screen::print_rehearsal;
+use printed::told::Told;
 use rehearsal::rehearse::rehearse;
+use report::read_exact;
+use report::read_whole;
+use report::report;
 use state::panel::Panel;
 use state::registers::Registers;
 
@@ -33,10 +37,10 @@ fn print_screen(
     rom: &[u8],
     frame: &mut [u8],
     out: &mut [u8],
-) -> usize
-    requires { ⌜ (panel ≡ panelIn (now input)) × (now rom ≡ characters) ⌝ }
+) -> Told
+    requires { ⌜ panel ≡ panelIn (now input) ⌝ }
     requires { ⌜ (length (now memory) ≡ 65536) × (length (now rom) ≡ 1024) × (length (now frame) ≡ frameBytes panel) ⌝ }
-    ensures { λ r. ⌜ printed r (now (out .exit)) ≡ rehearseTextOf (now (input .entry)) (now (out .entry)) ⌝ }
+    ensures { λ r. ⌜ reported r (now (out .exit)) ≡ rehearseTextOf (now (rom .entry)) (now (input .entry)) (now (out .entry)) ⌝ }
 {
     let number = byte_in(input, 3) as usize;
     let book = rest_in(input, 4);
@@ -52,34 +56,58 @@ fn print_screen(
         &mut room,
         frame,
     );
-    print_rehearsal(
+    let count = print_rehearsal(
         panel,
         rehearsed.pairs,
         rehearsed.number,
         rehearsed.place,
         frame,
         out,
-    )
+    );
+    Told {
+        count,
+        number: rehearsed.number,
+    }
 }
 
-// The program's whole text at the start of `out`, and its length; 0 where the room has another length than 131,072. The frame is the
-// part of the largest one that the panel takes.
-fn rehearse_text(input: &[u8], out: &mut [u8]) -> usize
-    ensures { λ r. ⌜ printed r (now (out .exit)) ≡ rehearseTextOf (now (input .entry)) (now (out .entry)) ⌝ }
+// The program's whole text at the start of `out`, its length and the screen's number; nothing where the room has another length than
+// 131,072. The frame is the part of the largest one that the panel takes.
+fn rehearse_text(rom: &[u8], input: &[u8], out: &mut [u8]) -> Told
+    requires { ⌜ length (now rom) ≡ 1024 ⌝ }
+    ensures { λ r. ⌜ reported r (now (out .exit)) ≡ rehearseTextOf (now (rom .entry)) (now (input .entry)) (now (out .entry)) ⌝ }
 {
     let panel = panel_in(input);
     let bytes = frame_bytes(panel);
     let mut memory = empty_memory();
-    let rom = character_rom();
     let mut frame = [0u8; 10240];
-    print_screen(input, panel, &mut memory, &rom, &mut frame[..bytes], out)
+    print_screen(input, panel, &mut memory, rom, &mut frame[..bytes], out)
+}
+
+// With an argument the ROM is the input's first part, which has to be whole.
+fn take_rom(rom: &mut [u8]) -> bool {
+    if os::arg_count() > 1 {
+        read_exact(STDIN_FILENO, rom)
+    } else {
+        true
+    }
 }
 
 // One byte past the limit shows that a book is too long.
 fn main() {
+    let mut rom = character_rom();
+    if !take_rom(&mut rom) {
+        return;
+    }
     let mut input = [0u8; 32773];
-    let got = io::read_full(STDIN_FILENO, &mut input);
+    let got = read_whole(STDIN_FILENO, &mut input);
+    if got.failed {
+        return;
+    }
+    let end = got.count;
     let mut out = [0u8; 131072];
-    let count = rehearse_text(&input[..got], &mut out);
-    io::write_all(STDOUT_FILENO, &out[..count]);
+    let told = rehearse_text(&rom, &input[..end], &mut out);
+    let count = told.count;
+    if io::write_all(STDOUT_FILENO, &out[..count]) {
+        report(told.number);
+    }
 }

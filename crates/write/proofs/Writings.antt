@@ -71,7 +71,7 @@ rooms out error h =
     record { output = l; line = eqb-true (length error) 131072 (both-right (eqb (length out) 2097155) _ e); stream = rw length-drop (omega arith) }
 
 -- a room of another length
-pub given-none : (input out error : List ℕ) → not (lent out error) ≡ true → givenIn (record { output = 0; error = 0 }) out error ≡ writeGivenOf input out error
+pub given-none : (input out error : List ℕ) → not (lent out error) ≡ true → givenIn (record { output = 0; error = 0; number = 2 }) out error ≡ writeGivenOf input out error
 unfolding writeGivenOf
 given-none input out error h = λ i. bothOf (sym (shut-is (lent out error) h) i) (writeGiven input) out error
 
@@ -126,7 +126,7 @@ module _ (input out error : List ℕ) (h : not (lent out error) ≡ false) {p : 
           → wroteAll r after ≡ cond t (wrote 12 (countOf p os) 0 (drop 3 out)) (wrote 0 0 (countOf p os) (sets (drop 3 out) 0 (logOf (streamOf p os))))
           → (after ≡ drop 3 out)
           × (refusalAlone (r .number) (r .place)
-          ≡ cond t (refusalAlone 12 (countOf p os)) (record { output = p .columns ∷ p .lines ∷ p .width ∷ logOf (streamOf p os); error = [] }))
+          ≡ cond t (refusalAlone 12 (countOf p os)) (record { output = p .columns ∷ p .lines ∷ p .width ∷ logOf (streamOf p os); error = []; number = 0 }))
       by-room os true e = from 12 (countOf p os) e
       by-room os false e = absurd (nz (ap (λ (o : Wrote). o .written .number) e))
 
@@ -138,15 +138,15 @@ module _ (input out error : List ℕ) (h : not (lent out error) ≡ false) {p : 
           let x = by-room os (ltb (length (drop 3 out)) (2 * countOf p os)) e in (
             x .0,
             x .1
-                ∙ ap (λ (m : ℕ). cond (ltb m (2 * countOf p os)) (refusalAlone 12 (countOf p os)) (record { output = p .columns ∷ p .lines ∷ p .width ∷ logOf (streamOf p os); error = [] }))
+                ∙ ap (λ (m : ℕ). cond (ltb m (2 * countOf p os)) (refusalAlone 12 (countOf p os)) (record { output = p .columns ∷ p .lines ∷ p .width ∷ logOf (streamOf p os); error = []; number = 0 }))
                 (rooms out error h .stream),
           )
 
   pub given-refused : (r .number ≡ 0 → ⊥) → {n : ℕ} {b : List ℕ} → printed n b ≡ printText true (refusalLine (r .number) (r .place)) error
-      → givenIn (record { output = 0; error = n }) (back out after) b ≡ writeGivenOf input out error
+      → givenIn (record { output = 0; error = n; number = r .number }) (back out after) b ≡ writeGivenOf input out error
   given-refused nz x =
       let e = refusal-is nz in
-      (λ q. record { output = printed 0 ((back-is out after ∙ ap (λ (l : List ℕ). take 3 out ++ l) (e .0) ∙ take-append-drop 3 out) q); error = x q })
+      (λ q. record { output = printed 0 ((back-is out after ∙ ap (λ (l : List ℕ). take 3 out ++ l) (e .0) ∙ take-append-drop 3 out) q); error = x q; number = r .number })
       ∙ (λ q. bothOf true (e .1 q) out error)
       ∙ of-input
 
@@ -171,9 +171,9 @@ module _ (input out error : List ℕ) (h : not (lent out error) ≡ false) {p : 
         accepted .holds ∙ sets-eq stream (drop 3 out) 0 (omega (arith, stream-long, accepted .fits))
         ∙ ap (λ (m : ℕ). stream ++ drop m (drop 3 out)) n ∙ ap (λ (l : List ℕ). stream ++ l) (drop-drop (length stream) 3 out)
 
-    written-is : record { output = p .columns ∷ p .lines ∷ p .width ∷ stream; error = [] } ≡ plain p book number
+    written-is : record { output = p .columns ∷ p .lines ∷ p .width ∷ stream; error = []; number = 0 } ≡ plain p book number
     written-is =
-        (λ q. cond (sym (le-ltb 2097152 (2 * countOf p (accepted .os)) (omega (arith, accepted .fits, rooms out error h .stream, count))) q) (refusalAlone 12 (countOf p (accepted .os))) (record { output = p .columns ∷ p .lines ∷ p .width ∷ stream; error = [] }))
+        (λ q. cond (sym (le-ltb 2097152 (2 * countOf p (accepted .os)) (omega (arith, accepted .fits, rooms out error h .stream, count))) q) (refusalAlone 12 (countOf p (accepted .os))) (record { output = p .columns ∷ p .lines ∷ p .width ∷ stream; error = []; number = 0 }))
         ∙ ap (written p) (sym (accepted .whole))
         ∙ ap (λ (t : Bool). written p (cond t (screenOf p book number) (refused 1 0))) (sym (accepted .valid))
       where
@@ -181,7 +181,7 @@ module _ (input out error : List ℕ) (h : not (lent out error) ≡ false) {p : 
         count = sym (accepted .pairs)
 
     pub given-written : {a b c : ℕ} → a ≡ getD input 0 0 → b ≡ getD input 1 0 → c ≡ getD input 2 0
-        → givenIn (record { output = 3 + 2 * r .pairs; error = 0 }) (set (set (set (back out after) 0 a) 1 b) 2 c) error ≡ writeGivenOf input out error
+        → givenIn (record { output = 3 + 2 * r .pairs; error = 0; number = 0 }) (set (set (set (back out after) 0 a) 1 b) 2 c) error ≡ writeGivenOf input out error
     given-written {a} {b} {c} x y s =
         let n : 3 + 2 * r .pairs ≡ suc (suc (suc (length stream))) = omega (arith, stream-long) in
         let m : 3 + length stream ≡ suc (suc (suc (length stream))) = omega arith in
@@ -192,6 +192,7 @@ module _ (input out error : List ℕ) (h : not (lent out error) ≡ false) {p : 
           output = printed (n q) ((ap (λ (l : List ℕ). set (set (set l 0 a) 1 b) 2 c) (back-is out after) ∙ headed out after a b c (omega (arith, rooms out error h .output))
               ∙ (λ u. column u ∷ line u ∷ wide u ∷ holds u) ∙ ap (λ (k : ℕ). p .columns ∷ p .lines ∷ p .width ∷ (stream ++ drop k out)) m) q);
           error = printed 0 error;
+          number = 0;
         })
         ∙ (λ q. bothOf true (written-is q) out error)
         ∙ of-input
@@ -211,4 +212,4 @@ pub write-both-settled : {n k : Lengths} {b c d e : List ℕ} (input out error :
     → givenIn k d e ≡ writeGivenOf input out error → (n ≡ k) × (b ≡ d) × (c ≡ e)
 write-both-settled input out error h k =
     let s = settled h k in
-    ((λ i. record { output = s i .output .count; error = s i .error .count }), ap (λ (o : Both). o .output .out) s, ap (λ (o : Both). o .error .out) s)
+    ((λ i. record { output = s i .output .count; error = s i .error .count; number = s i .number }), ap (λ (o : Both). o .output .out) s, ap (λ (o : Both). o .error .out) s)

@@ -12,20 +12,21 @@ use Rattle.writer.specs.Stream.{streamOf, countOf}
 use Rattle.printed.specs.Printed.{panelIn, refusalLine, Printed, printed, printText}
 use Rattle.write.specs.declared.Lengths.{Lengths}
 
--- what goes to standard output, and what to standard error
+-- what goes to standard output, what to standard error, and the refusal number
 pub record Given : Type 0 where
   pub output : List ℕ
   pub error : List ℕ
+  pub number : ℕ
 
 abbrev pub refusalAlone : ℕ → ℕ → Given
-refusalAlone n place = record { output = []; error = refusalLine n place }
+refusalAlone n place = record { output = []; error = refusalLine n place; number = n }
 
 -- C, L, w and the screen's stream, or a refusal's line; 12 where a room of 2,097,152 bytes is too short for the stream
 abbrev pub written : Panel → Screen → Given
 written p (screen os) =
     cond (ltb 2097152 (2 * countOf p os))
     (refusalAlone 12 (countOf p os))
-    (record { output = p .columns ∷ p .lines ∷ p .width ∷ logOf (streamOf p os); error = [] })
+    (record { output = p .columns ∷ p .lines ∷ p .width ∷ logOf (streamOf p os); error = []; number = 0 })
 written p (refused n place) = refusalAlone n place
 
 -- C, L, w, number, book: 1 where the panel is not valid, then what the screen comes to
@@ -38,13 +39,15 @@ writeGiven input =
 pub record Both : Type 0 where
   pub output : Printed
   pub error : Printed
+  pub number : ℕ
 
 abbrev pub givenIn : Lengths → List ℕ → List ℕ → Both
-givenIn n out error = record { output = printed (n .output) out; error = printed (n .error) error }
+givenIn n out error = record { output = printed (n .output) out; error = printed (n .error) error; number = n .number }
 
--- each at the start of its room
+-- each at the start of its room; nothing, and 2, where a lent length is wrong
 abbrev pub bothOf : Bool → Given → List ℕ → List ℕ → Both
-bothOf lent g out error = record { output = printText lent (g .output) out; error = printText lent (g .error) error }
+bothOf lent g out error =
+    record { output = printText lent (g .output) out; error = printText lent (g .error) error; number = cond lent (g .number) 2 }
 
 -- lent: 3 bytes and the stream's room for the output, 131,072 for the line
 unfoldable pub writeGivenOf : List ℕ → List ℕ → List ℕ → Both

@@ -12,13 +12,16 @@ use printed::input::byte_in;
 use printed::input::panel_in;
 use printed::input::rest_in;
 use printed::screen::print_picture;
+use report::read_whole;
+use report::report;
 use state::panel::Panel;
 use writer::write::write;
 
-// How many bytes go to standard output and to standard error.
+// How many bytes go to standard output and to standard error, and the refusal number.
 struct Lengths {
     output: usize,
     error: usize,
+    number: u8,
 }
 
 // Room for a panel and 1,048,576 pairs. The `ensures` gives only the length.
@@ -37,7 +40,7 @@ fn put_refusal(panel: Panel, number: u8, place: usize, error: &mut [u8]) -> usiz
     print_picture(panel, number, place, &none, error)
 }
 
-// What the program gives, at the start of two rooms, and how much; nothing where a room has another length.
+// What the program gives, at the start of two rooms, and how much; nothing and 2 where a room has another length.
 fn write_both(input: &[u8], out: &mut [u8], error: &mut [u8]) -> Lengths
     ensures { λ r. ⌜ givenIn r (now (out .exit)) (now (error .exit)) ≡ writeGivenOf (now (input .entry)) (now (out .entry)) (now (error .entry)) ⌝ }
 {
@@ -46,6 +49,7 @@ fn write_both(input: &[u8], out: &mut [u8], error: &mut [u8]) -> Lengths
         return Lengths {
             output: 0,
             error: 0,
+            number: 2,
         };
     }
     let panel = panel_in(input);
@@ -57,6 +61,7 @@ fn write_both(input: &[u8], out: &mut [u8], error: &mut [u8]) -> Lengths
         return Lengths {
             output: 0,
             error: line,
+            number: written.number,
         };
     }
     out[0] = byte_in(input, 0);
@@ -65,18 +70,26 @@ fn write_both(input: &[u8], out: &mut [u8], error: &mut [u8]) -> Lengths
     Lengths {
         output: 3 + 2 * written.pairs,
         error: 0,
+        number: 0,
     }
 }
 
 // One byte past the limit shows that a book is too long.
 fn main() {
     let mut input = [0u8; 32773];
-    let got = io::read_full(STDIN_FILENO, &mut input);
+    let got = read_whole(STDIN_FILENO, &mut input);
+    if got.failed {
+        return;
+    }
+    let end = got.count;
     let mut out = empty_room();
     let mut error = [0u8; 131072];
-    let given = write_both(&input[..got], &mut out, &mut error);
+    let given = write_both(&input[..end], &mut out, &mut error);
     let output = given.output;
-    io::write_all(STDOUT_FILENO, &out[..output]);
     let line = given.error;
-    io::write_all(STDERR_FILENO, &error[..line]);
+    if io::write_all(STDOUT_FILENO, &out[..output]) {
+        if io::write_all(STDERR_FILENO, &error[..line]) {
+            report(given.number);
+        }
+    }
 }

@@ -21,38 +21,35 @@ mul-rows c = search needs
 frame-bytes-requires : tie.Need-frame-bytes-requires
 frame-bytes-requires c κs = search needs
 
-character-rom-requires : tie.Need-character-rom-requires
-character-rom-requires c κs = search needs
-
-slice-aggregate-print-screen : tie.Need-slice-aggregate-print-screen
-slice-aggregate-print-screen c = search needs
-
 array-borrow-prefix-graphic : tie.Need-array-borrow-prefix-graphic
 array-borrow-prefix-graphic c = search needs
 
-slice-aggregate-print-screen-2 : tie.Need-slice-aggregate-print-screen-2
-slice-aggregate-print-screen-2 c = sym (cut (8 * c .before .before .before .before .cells .result) 10240 (omega (arith, c .before .before .before .before .cells .ensures .1)))
+slice-aggregate-print-screen : tie.Need-slice-aggregate-print-screen
+slice-aggregate-print-screen c =
+    sym (cut (8 * c .before .before .cells .result) 10240 (omega (arith, c .before .before .cells .ensures .1)))
 
 array-borrow-prefix-codes : tie.Need-array-borrow-prefix-codes
 array-borrow-prefix-codes c = search needs
 
-slice-aggregate-print-screen-3 : tie.Need-slice-aggregate-print-screen-3
-slice-aggregate-print-screen-3 c = sym (cut (c .before .before .before .before .before .cells .result) 1280 (c .before .before .before .before .before .cells .ensures .1))
+slice-aggregate-print-screen-2 : tie.Need-slice-aggregate-print-screen-2
+slice-aggregate-print-screen-2 c =
+    sym (cut (c .before .before .before .cells .result) 1280 (c .before .before .before .cells .ensures .1))
 
-slice-aggregate-print-screen-4 : tie.Need-slice-aggregate-print-screen-4
-slice-aggregate-print-screen-4 c = search needs
+slice-aggregate-print-screen-3 : tie.Need-slice-aggregate-print-screen-3
+slice-aggregate-print-screen-3 c = search needs
 
 array-borrow-prefix-frame : tie.Need-array-borrow-prefix-frame
 array-borrow-prefix-frame c = search needs
 
-slice-aggregate-print-screen-5 : tie.Need-slice-aggregate-print-screen-5
-slice-aggregate-print-screen-5 c = sym (cut (c .before .before .before .before .before .before .frame-bytes .result) 10240 (c .before .before .before .before .before .before .frame-bytes .ensures .1))
+slice-aggregate-print-screen-4 : tie.Need-slice-aggregate-print-screen-4
+slice-aggregate-print-screen-4 c =
+    sym (cut (c .before .before .before .before .frame-bytes .result) 10240 (c .before .before .before .before .frame-bytes .ensures .1))
 
 print-screen-requires : tie.Need-print-screen-requires
 print-screen-requires c κs =
-    let size = c .before .before .before .before .before .before .before .before .cells in
-    let bytes = c .before .before .before .before .before .before .before .frame-bytes in
-    ((c .before .before .before .before .before .before .before .before .before .panel-in .ensures, c .before .before .before .before .before .before .character-rom .ensures .0), cut-fits (c .before .before .before .before .before .before .before .before .before .panel-in .result) (size .ensures .0) (bytes .ensures .0) (c .before .before .before .before .before .before .character-rom .ensures .1) (cut (8 * size .result) 10240 (omega (arith, size .ensures .1))) (cut (size .result) 1280 (size .ensures .1)) (length-replicate {0} {A = ℕ} 1024 0) (cut (bytes .result) 10240 (bytes .ensures .1)))
+    let size = c .before .before .before .before .before .before .cells in
+    let bytes = c .before .before .before .before .before .frame-bytes in
+    (c .before .before .before .before .before .before .before .panel-in .ensures, cut-fits (c .before .before .before .before .before .before .before .panel-in .result) (size .ensures .0) (bytes .ensures .0) (c .before .before .before .before .before .before .before .before .before .before .before .pre) (cut (8 * size .result) 10240 (omega (arith, size .ensures .1))) (cut (size .result) 1280 (size .ensures .1)) (length-replicate {0} {A = ℕ} 1024 0) (cut (bytes .result) 10240 (bytes .ensures .1)))
 
 same-length : tie.Need-same-length
 same-length c = search needs
@@ -68,15 +65,13 @@ draw-text-spec =
     cells-requires
     mul-rows
     frame-bytes-requires
-    character-rom-requires
-    slice-aggregate-print-screen
     array-borrow-prefix-graphic
-    slice-aggregate-print-screen-2
+    slice-aggregate-print-screen
     array-borrow-prefix-codes
+    slice-aggregate-print-screen-2
     slice-aggregate-print-screen-3
-    slice-aggregate-print-screen-4
     array-borrow-prefix-frame
-    slice-aggregate-print-screen-5
+    slice-aggregate-print-screen-4
     print-screen-requires
     same-length
     returns)

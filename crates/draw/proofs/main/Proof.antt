@@ -6,47 +6,79 @@ use borrow.Author.Needs.{needs}
 use Rattle.draw.proofs.main.Statement.{statement}
 use Rattle.draw.proofs.main.Tie as tie
 
-slice-aggregate-read-full : tie.Need-slice-aggregate-read-full
-slice-aggregate-read-full c = search needs
+character-rom-requires : tie.Need-character-rom-requires
+character-rom-requires c κs = search needs
 
-read-full-requires : tie.Need-read-full-requires
-read-full-requires c κs = search needs
+slice-aggregate-take-rom : tie.Need-slice-aggregate-take-rom
+slice-aggregate-take-rom c = search needs
 
-array-share-prefix-input : tie.Need-array-share-prefix-input
-array-share-prefix-input c = search needs
+take-rom-requires : tie.Need-take-rom-requires
+take-rom-requires c κs = search needs
+
+returns : tie.Need-returns
+returns c = search needs
+
+slice-aggregate-read-whole : tie.Need-slice-aggregate-read-whole
+slice-aggregate-read-whole c = search needs
+
+read-whole-requires : tie.Need-read-whole-requires
+read-whole-requires c κs = search needs
+
+returns-2 : tie.Need-returns-2
+returns-2 c = search needs
 
 slice-aggregate-draw-text : tie.Need-slice-aggregate-draw-text
 slice-aggregate-draw-text c = search needs
 
+array-share-prefix-input : tie.Need-array-share-prefix-input
+array-share-prefix-input c = search needs
+
 slice-aggregate-draw-text-2 : tie.Need-slice-aggregate-draw-text-2
 slice-aggregate-draw-text-2 c = search needs
+
+slice-aggregate-draw-text-3 : tie.Need-slice-aggregate-draw-text-3
+slice-aggregate-draw-text-3 c = search needs
 
 draw-text-requires : tie.Need-draw-text-requires
 draw-text-requires c κs = search needs
 
 array-share-prefix-out : tie.Need-array-share-prefix-out
-array-share-prefix-out c = draw-within _ _ (c .before .draw-text .ensures)
+array-share-prefix-out c = draw-within _ _ _ (c .before .draw-text .ensures)
 
 slice-aggregate-write-all : tie.Need-slice-aggregate-write-all
-slice-aggregate-write-all c = sym (length-take-le _ _ (draw-within _ _ (c .before .before .draw-text .ensures)))
+slice-aggregate-write-all c = sym (length-take-le _ _ (draw-within _ _ _ (c .before .before .draw-text .ensures)))
 
 write-all-requires : tie.Need-write-all-requires
 write-all-requires c κs = search needs
 
-returns : tie.Need-returns
-returns c = search needs
+report-requires : tie.Need-report-requires
+report-requires c κs = search needs
+
+returns-3 : tie.Need-returns-3
+returns-3 c = search needs
+
+returns-4 : tie.Need-returns-4
+returns-4 c = search needs
 
 pub main-spec : {M : Type 1} → statement M
 main-spec =
     tie.close
     (tie.spec
-    slice-aggregate-read-full
-    read-full-requires
-    array-share-prefix-input
+    character-rom-requires
+    slice-aggregate-take-rom
+    take-rom-requires
+    returns
+    slice-aggregate-read-whole
+    read-whole-requires
+    returns-2
     slice-aggregate-draw-text
+    array-share-prefix-input
     slice-aggregate-draw-text-2
+    slice-aggregate-draw-text-3
     draw-text-requires
     array-share-prefix-out
     slice-aggregate-write-all
     write-all-requires
-    returns)
+    report-requires
+    returns-3
+    returns-4)

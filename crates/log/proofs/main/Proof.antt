@@ -6,11 +6,14 @@ use borrow.Author.Needs.{needs}
 use Rattle.log.proofs.main.Statement.{statement}
 use Rattle.log.proofs.main.Tie as tie
 
-slice-aggregate-read-full : tie.Need-slice-aggregate-read-full
-slice-aggregate-read-full c = search needs
+slice-aggregate-read-whole : tie.Need-slice-aggregate-read-whole
+slice-aggregate-read-whole c = search needs
 
-read-full-requires : tie.Need-read-full-requires
-read-full-requires c κs = search needs
+read-whole-requires : tie.Need-read-whole-requires
+read-whole-requires c κs = search needs
+
+returns : tie.Need-returns
+returns c = search needs
 
 array-share-prefix-input : tie.Need-array-share-prefix-input
 array-share-prefix-input c = search needs
@@ -33,15 +36,22 @@ slice-aggregate-write-all c = sym (length-take-le _ _ (print-within _ _ (c .befo
 write-all-requires : tie.Need-write-all-requires
 write-all-requires c κs = search needs
 
-returns : tie.Need-returns
-returns c = search needs
+report-requires : tie.Need-report-requires
+report-requires c κs = search needs
+
+returns-2 : tie.Need-returns-2
+returns-2 c = search needs
+
+returns-3 : tie.Need-returns-3
+returns-3 c = search needs
 
 pub main-spec : {M : Type 1} → statement M
 main-spec =
     tie.close
     (tie.spec
-    slice-aggregate-read-full
-    read-full-requires
+    slice-aggregate-read-whole
+    read-whole-requires
+    returns
     array-share-prefix-input
     slice-aggregate-print
     slice-aggregate-print-2
@@ -49,4 +59,6 @@ main-spec =
     array-share-prefix-out
     slice-aggregate-write-all
     write-all-requires
-    returns)
+    report-requires
+    returns-2
+    returns-3)

@@ -14,25 +14,20 @@ frame-bytes-requires c κs = search needs
 empty-memory-requires : tie.Need-empty-memory-requires
 empty-memory-requires c κs = search needs
 
-character-rom-requires : tie.Need-character-rom-requires
-character-rom-requires c κs = search needs
-
 slice-aggregate-print-screen : tie.Need-slice-aggregate-print-screen
 slice-aggregate-print-screen c = search needs
-
-slice-aggregate-print-screen-2 : tie.Need-slice-aggregate-print-screen-2
-slice-aggregate-print-screen-2 c = search needs
 
 array-borrow-prefix-frame : tie.Need-array-borrow-prefix-frame
 array-borrow-prefix-frame c = search needs
 
-slice-aggregate-print-screen-3 : tie.Need-slice-aggregate-print-screen-3
-slice-aggregate-print-screen-3 c = sym (cut (c .before .before .before .before .before .frame-bytes .result) 10240 (c .before .before .before .before .before .frame-bytes .ensures .1))
+slice-aggregate-print-screen-2 : tie.Need-slice-aggregate-print-screen-2
+slice-aggregate-print-screen-2 c =
+    sym (cut (c .before .before .before .frame-bytes .result) 10240 (c .before .before .before .frame-bytes .ensures .1))
 
 print-screen-requires : tie.Need-print-screen-requires
 print-screen-requires c κs =
-    let bytes = c .before .before .before .before .before .before .frame-bytes in
-    ((c .before .before .before .before .before .before .before .panel-in .ensures, c .before .before .before .before .character-rom .ensures .0), (sym (c .before .before .before .before .before .empty-memory .ensures .1), sym (c .before .before .before .before .character-rom .ensures .1), cut (bytes .result) 10240 (bytes .ensures .1) ∙ bytes .ensures .0))
+    let bytes = c .before .before .before .before .frame-bytes in
+    (c .before .before .before .before .before .panel-in .ensures, (sym (c .before .before .before .empty-memory .ensures .1), c .before .before .before .before .before .before .before .before .before .pre, cut (bytes .result) 10240 (bytes .ensures .1) ∙ bytes .ensures .0))
 
 same-length : tie.Need-same-length
 same-length c = search needs
@@ -47,11 +42,9 @@ rehearse-text-spec =
     panel-in-requires
     frame-bytes-requires
     empty-memory-requires
-    character-rom-requires
     slice-aggregate-print-screen
-    slice-aggregate-print-screen-2
     array-borrow-prefix-frame
-    slice-aggregate-print-screen-3
+    slice-aggregate-print-screen-2
     print-screen-requires
     same-length
     returns)

@@ -6,11 +6,14 @@ use borrow.Author.Needs.{needs}
 use Rattle.write.proofs.main.Statement.{statement}
 use Rattle.write.proofs.main.Tie as tie
 
-slice-aggregate-read-full : tie.Need-slice-aggregate-read-full
-slice-aggregate-read-full c = search needs
+slice-aggregate-read-whole : tie.Need-slice-aggregate-read-whole
+slice-aggregate-read-whole c = search needs
 
-read-full-requires : tie.Need-read-full-requires
-read-full-requires c κs = search needs
+read-whole-requires : tie.Need-read-whole-requires
+read-whole-requires c κs = search needs
+
+returns : tie.Need-returns
+returns c = search needs
 
 empty-room-requires : tie.Need-empty-room-requires
 empty-room-requires c κs = search needs
@@ -40,23 +43,34 @@ write-all-requires : tie.Need-write-all-requires
 write-all-requires c κs = search needs
 
 array-share-prefix-error : tie.Need-array-share-prefix-error
-array-share-prefix-error c = error-within _ _ _ (c .before .before .before .before .write-both .ensures)
+array-share-prefix-error c = error-within _ _ _ (c .before .before .before .before .before .write-both .ensures)
 
 slice-aggregate-write-all-2 : tie.Need-slice-aggregate-write-all-2
-slice-aggregate-write-all-2 c = sym (length-take-le _ _ (error-within _ _ _ (c .before .before .before .before .before .write-both .ensures)))
+slice-aggregate-write-all-2 c =
+    sym (length-take-le _ _ (error-within _ _ _ (c .before .before .before .before .before .before .write-both .ensures)))
 
 write-all-requires-2 : tie.Need-write-all-requires-2
 write-all-requires-2 c κs = search needs
 
-returns : tie.Need-returns
-returns c = search needs
+report-requires : tie.Need-report-requires
+report-requires c κs = search needs
+
+returns-2 : tie.Need-returns-2
+returns-2 c = search needs
+
+returns-3 : tie.Need-returns-3
+returns-3 c = search needs
+
+returns-4 : tie.Need-returns-4
+returns-4 c = search needs
 
 pub main-spec : {M : Type 1} → statement M
 main-spec =
     tie.close
     (tie.spec
-    slice-aggregate-read-full
-    read-full-requires
+    slice-aggregate-read-whole
+    read-whole-requires
+    returns
     empty-room-requires
     array-share-prefix-input
     slice-aggregate-write-both
@@ -69,4 +83,7 @@ main-spec =
     array-share-prefix-error
     slice-aggregate-write-all-2
     write-all-requires-2
-    returns)
+    report-requires
+    returns-2
+    returns-3
+    returns-4)

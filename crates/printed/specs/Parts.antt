@@ -1,0 +1,24 @@
+-- A run's text in parts.
+use Prim.Native.Nat.{ℕ, _/_}
+use mathlib.Core.Bool.{_&&_}
+use mathlib.Core.List.{List}
+use lib.Dec.{leb, eqb}
+use lib.ListN.{length}
+use Rattle.state.specs.State.{validPanel}
+use Rattle.display.specs.Frame.{frameFits}
+use Rattle.controller.specs.Types.{Panel}
+use Rattle.printed.specs.Text.{hexLines}
+use Rattle.printed.specs.Printed.{firstLine, frameLines, Printed, printText}
+
+-- lent: 112 bytes, which suffice
+unfoldable pub printLineOf : ℕ → ℕ → ℕ → ℕ → List ℕ → Printed
+printLineOf pairs answers number place out = printText (leb 112 (length out)) (firstLine pairs answers number place) out
+
+-- lent: the answers, and three bytes for each
+unfoldable pub printAnswersOf : ℕ → List ℕ → List ℕ → Printed
+printAnswersOf given answers out =
+    printText (leb given (length answers) && leb given (length out / 3)) (hexLines given answers) out
+
+-- lent: a frame of its panel's length, 131,072 bytes of text
+unfoldable pub printRowsOf : Panel → List ℕ → List ℕ → Printed
+printRowsOf p frame out = printText (validPanel p && frameFits p frame && eqb (length out) 131072) (frameLines p frame) out
