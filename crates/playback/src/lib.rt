@@ -1,0 +1,2 @@
+// A log of any length, played part by part.
+pub mod play;
