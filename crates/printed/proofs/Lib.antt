@@ -3,3 +3,4 @@ pub mod Decimals
 pub mod Texts
 pub mod Prints
 pub mod Screens
+pub mod Pieces

@@ -1,0 +1,28 @@
+-- The parts of a run's text stand in their rooms.
+use mathlib.Core.Path.{_≡_}
+use mathlib.Core.Bool.{_&&_}
+use mathlib.Core.List.{List}
+use Prim.Native.Nat.{ℕ, _/_, _≤_}
+use lib.Dec.{leb, eqb}
+use lib.ListN.{length}
+use Rattle.state.specs.State.{validPanel}
+use Rattle.display.specs.Frame.{frameFits}
+use Rattle.controller.specs.Types.{Panel}
+use Rattle.printed.specs.Text.{hexLines}
+use Rattle.printed.specs.Printed.{firstLine, frameLines, printed}
+use Rattle.printed.specs.Parts.{printLineOf, printAnswersOf, printRowsOf}
+use Rattle.printed.proofs.Texts.{printed-within}
+
+pub line-within : (pairs answers number place : ℕ) (out : List ℕ) {w : ℕ} {b : List ℕ} → printed w b ≡ printLineOf pairs answers number place out → w ≤ length b
+unfolding printLineOf
+line-within pairs answers number place out h = printed-within (leb 112 (length out)) (firstLine pairs answers number place) out h
+
+pub answers-within : (given : ℕ) (answers out : List ℕ) {w : ℕ} {b : List ℕ} → printed w b ≡ printAnswersOf given answers out → w ≤ length b
+unfolding printAnswersOf
+answers-within given answers out h =
+    printed-within (leb given (length answers) && leb given (length out / 3)) (hexLines given answers) out h
+
+pub rows-within : (p : Panel) (frame out : List ℕ) {w : ℕ} {b : List ℕ} → printed w b ≡ printRowsOf p frame out → w ≤ length b
+unfolding printRowsOf
+rows-within p frame out h =
+    printed-within (validPanel p && frameFits p frame && eqb (length out) 131072) (frameLines p frame) out h
