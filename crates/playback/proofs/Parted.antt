@@ -21,7 +21,8 @@ use Rattle.controller.specs.Run.{pairsOf, End, whole, short, Run, runFrom, endN
 use Rattle.controller.specs.Ready.{standing}
 use Rattle.controller.proofs.Laws.{Sounds, sounds, sounds-valid}
 use Rattle.controller.proofs.Runs.{pairs-length}
-use Rattle.controller.proofs.Splitting.{Ends, all, cut, Kept, run-kept, inside}
+use Rattle.controller.proofs.Goings.{Ends, all, cut, Kept}
+use Rattle.controller.proofs.Splitting.{running-kept, inside}
 use Rattle.playback.specs.declared.play.Played.{Played}
 use Rattle.playback.specs.Play.{countedOn, PlayedAll, playedAll, partOf, playOf, closedOf}
 use Rattle.playback.specs.Parts.{Part, logOfParts, Cut, none, one, Gathered, gather, playParts, begun, wholeRun, PartByPart, ClosedWhole}
@@ -124,8 +125,8 @@ module _ (p : Panel) (rom : List ℕ) (v : validPanel p ≡ true) (l : length ro
     run-free : Agrees (freeFrom (stepOf p rom) 0 (pairsOf log) m []) ran
     run-free = roomy (stepOf p rom) (pairsOf log) 0 m [] room (omega (arith, pairs-length log))
 
-    run-keeps : Kept ran
-    run-keeps = run-kept p rom (pairsOf log) 0 (standing (m .registers) (m .memory) room 0) sound (omega arith)
+    run-keeps : Kept Sounds ran
+    run-keeps = running-kept p rom (pairsOf log) 0 (standing (m .registers) (m .memory) room 0) sound (omega arith)
 
   -- what one part adds
   module _ (m : Machine) (k : ℕ) (given : List ℕ) (sound : Sounds m) (few : length given ≤ k) (log room : List ℕ) (even : length log % 2 ≡ 0) (r : length log / 2 ≤ length room)
