@@ -18,20 +18,22 @@ use Rattle.book.specs.Screen.{Screen, screen, refused, screenOf}
 use Rattle.book.proofs.Numbers.{refusal-number}
 use Rattle.picture.specs.Drawn.{Drew, drewAll, planesFit, drawScreen, drawOf}
 use Rattle.printed.specs.declared.told.Told.{Told}
+use Rattle.state.specs.Sizes.{frameSize, cellCount, validSize}
+use Rattle.state.proofs.Sizes.{is-size}
 use Rattle.printed.specs.Printed.{panelIn, refusalLine, printed, printText, Reported, reported}
-use Rattle.printed.specs.Screen.{frameBytes, pictureText, framed, printPictureOf}
+use Rattle.printed.specs.Screen.{pictureText, framed, printPictureOf}
 use Rattle.printed.proofs.Screens.{line-alone, may-print}
 use Rattle.printed.proofs.Texts.{printed-within, reported-settled}
-use Rattle.draw.specs.Drawing.{phaseIn, screenNumber, drawn, drawText, drawTextOf, cellsOf, Cut}
+use Rattle.draw.specs.Drawing.{phaseIn, screenNumber, drawn, drawText, drawTextOf, Cut}
 
 -- the parts lent are the panel's
-pub cut-fits : (p : Panel) {size bytes : ℕ} {rom g t l f : List ℕ} → size ≡ cellsOf p → bytes ≡ frameBytes p → length rom ≡ 1024 → length g ≡ 8 * size
+pub cut-fits : (p : Panel) {size bytes : ℕ} {rom g t l f : List ℕ} → size ≡ validSize p (cellCount p) → bytes ≡ validSize p (frameSize p) → length rom ≡ 1024 → length g ≡ 8 * size
     → length t ≡ size → length l ≡ 1024 → length f ≡ bytes → Cut p rom g t l f
 cut-fits p {size} {bytes} {rom} {g} {t} {l} {f} i j a b c d e =
     record {
       fits = λ v.
-          let s : size ≡ p .lines * p .columns = i ∙ ap (λ (x : Bool). cond x (p .lines * p .columns) 0) v in
-          let n : bytes ≡ 8 * p .lines * rowBytes (p .columns) (p .width) = j ∙ ap (λ (x : Bool). cond x (8 * p .lines * rowBytes (p .columns) (p .width)) 0) v in
+          let s : size ≡ cellCount p = is-size p v i in
+          let n : bytes ≡ frameSize p = is-size p v j in
           both
           (both
           (both (both (eq-eqb (length rom) 1024 a) (eq-eqb (length g) (8 * p .lines * p .columns) (b ∙ ap (λ (m : ℕ). 8 * m) s ∙ sym (mul-assoc 8 (p .lines) (p .columns)))))

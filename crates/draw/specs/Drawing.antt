@@ -2,7 +2,7 @@
 use mathlib.Core.Path.{_≡_}
 use mathlib.Core.Bool.{Bool, true, cond, not, _&&_}
 use mathlib.Core.List.{List, _++_}
-use Prim.Native.Nat.{ℕ, _*_}
+use Prim.Native.Nat.{ℕ}
 use lib.Dec.{eqb}
 use lib.ListN.{length, getD, drop}
 use Rattle.state.specs.declared.panel.Panel.{Panel}
@@ -39,10 +39,6 @@ drawText rom input = drawn (panelIn input) rom (phaseIn input) (screenIn input)
 unfoldable pub drawTextOf : List ℕ → List ℕ → List ℕ → Reported
 drawTextOf rom input out =
     record { text = printText (eqb (length out) 131072) (drawText rom input) out; number = screenNumber (screenIn input) }
-
--- the cells of a valid panel
-abbrev pub cellsOf : Panel → ℕ
-cellsOf p = cond (validPanel p) (p .lines * p .columns) 0
 
 -- a valid panel's ROM, planes and frame: what an inner routine rests on
 pub record Cut (p : Panel) (rom graphic codes glyphs frame : List ℕ) : Type 0 where

@@ -1,10 +1,9 @@
 // The draw program: a panel, a screen's number, a phase and a book from standard input; to standard output the screen's refusal and its
 // picture. Started with an argument it takes the character ROM before them.
 ghost use mathlib.Core.Path.{_≡_};
-ghost use Prim.Native.Nat.{_≤_};
 ghost use lib.ListN.{length};
 ghost use Rattle.printed.specs.Printed.{panelIn, reported};
-ghost use Rattle.draw.specs.Drawing.{drawTextOf, cellsOf, Cut};
+ghost use Rattle.draw.specs.Drawing.{drawTextOf, Cut};
 use libc::STDIN_FILENO;
 use libc::STDOUT_FILENO;
 use picture::draw::draw;
@@ -12,25 +11,12 @@ use printed::fill::character_rom;
 use printed::input::byte_in;
 use printed::input::panel_in;
 use printed::input::rest_in;
-use printed::screen::frame_bytes;
 use printed::screen::print_picture;
 use printed::told::Told;
 use report::read_exact;
 use report::read_whole;
 use report::report;
 use state::panel::Panel;
-
-// A panel's cells; one that is not valid is refused before they count.
-fn cells(panel: Panel) -> usize
-    ensures { λ r. ⌜ r ≡ cellsOf panel ⌝ }
-    ensures { λ r. ⌜ r ≤ 1280 ⌝ }
-{
-    if panel.valid() {
-        panel.lines * panel.columns
-    } else {
-        0
-    }
-}
 
 // A screen's picture as text, drawn in planes and a frame of its panel's lengths; in the phase that is off where its byte is 0.
 fn print_screen(
@@ -75,9 +61,9 @@ fn draw_text(rom: &[u8], input: &[u8], out: &mut [u8]) -> Told
     ensures { λ r. ⌜ reported r (now (out .exit)) ≡ drawTextOf (now (rom .entry)) (now (input .entry)) (now (out .entry)) ⌝ }
 {
     let panel = panel_in(input);
-    let size = cells(panel);
+    let size = panel.cell_count();
     let rows = 8 * size;
-    let bytes = frame_bytes(panel);
+    let bytes = panel.frame_size();
     let mut graphic = [0u8; 10240];
     let mut codes = [0u8; 1280];
     let mut glyphs = [0u8; 1024];

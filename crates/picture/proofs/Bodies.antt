@@ -21,7 +21,8 @@ use Rattle.book.proofs.Walking.{Step, step-on, step-end, step-never-faulty}
 use Rattle.picture.specs.declared.cursor.Laid.the-variants.{Nowhere}
 use Rattle.picture.specs.declared.style.Style.{Style}
 use Rattle.picture.specs.Picture.{Picture, blank, filled, applied, appliedAll}
-use Rattle.picture.specs.Ready.{pictureWith, graphicBytes, cellsOf, Sized, InPlane, PlanesLent, appliedIn, DrawableBody}
+use Rattle.state.specs.Sizes.{cellCount}
+use Rattle.picture.specs.Ready.{pictureWith, graphicBytes, Sized, InPlane, PlanesLent, appliedIn, DrawableBody}
 use Rattle.picture.proofs.Storing.{filled-length}
 
 -- the planes of a picture have their sizes
@@ -63,7 +64,7 @@ module _ {p : Panel} {Range : Type 0} {g t h : List ℕ} (k : PlanesLent p Range
   pub in-graphic : InPlane p Range (graphicBytes p) g
   in-graphic = record { valid = k .valid; range = k .range; sized = k .sized .graphic }
 
-  pub in-codes : InPlane p Range (cellsOf p) t
+  pub in-codes : InPlane p Range (cellCount p) t
   in-codes = record { valid = k .valid; range = k .range; sized = k .sized .codes }
 
   pub in-glyphs : InPlane p Range 1024 h

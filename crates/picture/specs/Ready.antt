@@ -6,6 +6,7 @@ use mathlib.Core.List.{List}
 use lib.ListN.{length}
 use Rattle.state.specs.declared.panel.Panel.{Panel}
 use Rattle.state.specs.State.{validPanel}
+use Rattle.state.specs.Sizes.{cellCount}
 use Rattle.book.specs.Operation.{Operation}
 use Rattle.book.specs.Screen.{Screen, screen, refused, operationsFrom}
 use Rattle.picture.specs.declared.style.Style.{Style}
@@ -19,12 +20,9 @@ pictureWith graphic codes glyphs s =
 abbrev pub graphicBytes : Panel → ℕ
 graphicBytes p = 8 * p .lines * p .columns
 
-abbrev pub cellsOf : Panel → ℕ
-cellsOf p = p .lines * p .columns
-
 pub record Sized (p : Panel) (g t h : List ℕ) : Type 0 where
   pub graphic : length g ≡ graphicBytes p
-  pub codes : length t ≡ cellsOf p
+  pub codes : length t ≡ cellCount p
   pub glyphs : length h ≡ 1024
 
 -- a valid panel, a place on it, and the plane that the place is in

@@ -8,7 +8,8 @@ ghost use Rattle.book.specs.Operation.{operationOf, dotByte, dotBit};
 ghost use Rattle.book.specs.Range.{InRange, TextRange, RectangleRange, DotRange, GlyphRange};
 ghost use Rattle.book.specs.Screen.{operationsFrom};
 ghost use Rattle.picture.specs.Picture.{filled, applied, blank};
-ghost use Rattle.picture.specs.Ready.{pictureWith, cellsOf, graphicBytes, InPlane, PlanesLent, appliedIn, Sized, DrawableBody};
+ghost use Rattle.state.specs.Sizes.{cellCount};
+ghost use Rattle.picture.specs.Ready.{pictureWith, graphicBytes, InPlane, PlanesLent, appliedIn, Sized, DrawableBody};
 use super::cursor::Laid;
 use super::plane::clear;
 use super::plane::fill;
@@ -32,7 +33,7 @@ fn lay_text(
     from: usize,
     n: usize,
 )
-    requires { ⌜ InPlane panel (TextRange panel (now book) line column from n) (cellsOf panel) (now codes) ⌝ }
+    requires { ⌜ InPlane panel (TextRange panel (now book) line column from n) (cellCount panel) (now codes) ⌝ }
     ensures { λ _. ⌜ now (codes .exit) ≡ sets (now (codes .entry)) (line * panel .columns + column) (take n (drop from (now (book .entry)))) ⌝ }
 {
     store(codes, line * panel.columns + column, book, from, n);

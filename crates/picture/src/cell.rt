@@ -4,7 +4,8 @@ ghost use Prim.Native.Nat.{_<_};
 ghost use lib.ListN.{length};
 ghost use Rattle.picture.specs.Picture.{pictureCell};
 ghost use Rattle.picture.specs.Layers.{glyphIn, planeText, planeGraphic};
-ghost use Rattle.picture.specs.Ready.{pictureWith, cellsOf, graphicBytes, InPlane, OnPanel, Paintable};
+ghost use Rattle.state.specs.Sizes.{cellCount};
+ghost use Rattle.picture.specs.Ready.{pictureWith, graphicBytes, InPlane, OnPanel, Paintable};
 use super::style::Style;
 use ground::bytes::full;
 use ground::bytes::low;
@@ -26,7 +27,7 @@ fn glyph_row(rom: &[u8], glyphs: &[u8], code: u8, v: usize) -> u8
 }
 
 fn text_dots(panel: Panel, rom: &[u8], codes: &[u8], glyphs: &[u8], row: usize, column: usize) -> u8
-    requires { ⌜ InPlane panel (OnPanel panel row column) (cellsOf panel) (now codes) ⌝ }
+    requires { ⌜ InPlane panel (OnPanel panel row column) (cellCount panel) (now codes) ⌝ }
     requires { ⌜ (length (now rom) ≡ 1024) × (length (now glyphs) ≡ 1024) ⌝ }
     ensures { λ r. ⌜ r ≡ planeText panel (now (rom .entry)) (now (codes .entry)) (now (glyphs .entry)) row column ⌝ }
 {

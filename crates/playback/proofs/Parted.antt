@@ -1,7 +1,7 @@
 -- Played part by part, any log is its run.
 use mathlib.Core.Path.{_≡_, refl, ap, sym, subst, _∙_}
 use mathlib.Core.Bool.{Bool, true, false, cond, not, _&&_}
-use mathlib.Core.List.{List, [], _∷_, _++_, append-assoc, append-nil}
+use mathlib.Core.List.{List, [], _∷_, _++_, append-nil}
 use Prim.Native.Nat.{ℕ, suc, _+_, _/_, _%_, _^_, _≤_, _<_}
 use native.Mathlib.Nat.{mod-eq-of-lt}
 use native.Mathlib.Omega.{arith}
@@ -16,15 +16,14 @@ use Rattle.state.specs.State.{validPanel, validRegisters}
 use Rattle.display.specs.Frame.{lentLengths}
 use Rattle.effects.specs.Machine.{Machine, machine}
 use Rattle.controller.specs.declared.run.Ran.{Ran}
-use Rattle.controller.specs.Access.{Pair, Step, stepOf}
+use Rattle.controller.specs.Access.{Pair, stepOf}
 use Rattle.controller.specs.Run.{pairsOf, End, whole, short, Run, runFrom, endNumber, endPlace, RanAll, ranOf, ranNone, runOf}
 use Rattle.controller.specs.Ready.{standing}
 use Rattle.controller.proofs.Laws.{Sounds, sounds, sounds-valid}
 use Rattle.controller.proofs.Runs.{pairs-length}
 use Rattle.controller.proofs.Goings.{Ends, all, cut, Kept}
 use Rattle.controller.proofs.Splitting.{running-kept, inside}
-use Rattle.playback.specs.declared.play.Played.{Played}
-use Rattle.playback.specs.Play.{countedOn, PlayedAll, playedAll, partOf, playOf, closedOf}
+use Rattle.playback.specs.Play.{PlayedAll, partOf, playOf, closedOf}
 use Rattle.playback.specs.Parts.{Part, logOfParts, Cut, none, one, Gathered, gather, playParts, begun, wholeRun, PartByPart, ClosedWhole}
 use Rattle.playback.proofs.Plays.{play-refused, play-on}
 use Rattle.playback.proofs.Frees.{Free, free, freeFrom, onFree, shiftFree, Counted, Agrees, free-append, free-shift, free-counted, roomy}

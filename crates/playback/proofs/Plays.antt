@@ -1,6 +1,6 @@
 -- What going on and closing answer, from what their parts answered.
-use mathlib.Core.Path.{_≡_, refl, ap, sym, _∙_}
-use mathlib.Core.Bool.{Bool, true, false, cond, not, _&&_}
+use mathlib.Core.Path.{_≡_, ap, sym, _∙_}
+use mathlib.Core.Bool.{Bool, cond, not, _&&_}
 use mathlib.Core.List.{List}
 use Prim.Native.Nat.{ℕ, _+_, _/_, _%_, _^_}
 use lib.Dec.{eqb}
@@ -11,7 +11,7 @@ use Rattle.state.specs.declared.panel.Panel.{Panel}
 use Rattle.state.specs.declared.registers.Registers.{Registers}
 use Rattle.state.specs.State.{validPanel, validRegisters}
 use Rattle.controller.specs.declared.run.Ran.{Ran}
-use Rattle.controller.specs.Run.{RanAll, ranAll, runOf}
+use Rattle.controller.specs.Run.{ranAll, runOf}
 use Rattle.playback.specs.declared.play.Played.{Played}
 use Rattle.playback.specs.Play.{countedOn, PlayedAll, playedAll, partOf, playOf, closedOf}
 

@@ -78,9 +78,6 @@ module _ (p : Panel) (q : Panelled p) where
   pub dots-few : p .columns * p .width ≤ 640
   dots-few = mul-le-mul {n₂ = 80} {m₂ = 8} (q .columns) (narrow q)
 
-  pub frame-few : 8 * p .lines * rowBytes (p .columns) (p .width) ≤ 10240
-  frame-few = mul-le-mul {n₂ = 128} {m₂ = 80} (omega (arith, q .lines)) (omega (arith, dots-few))
-
   pub lines-few : 8 * p .lines * (p .columns * p .width + 1) ≤ 82048
   lines-few = mul-le-mul {n₂ = 128} {m₂ = 641} (omega (arith, q .lines)) (omega (arith, dots-few))
 

@@ -1,18 +1,13 @@
 -- What the programs over a book print of a screen.
-use Prim.Native.Nat.{ℕ, _*_}
+use Prim.Native.Nat.{ℕ}
 use mathlib.Core.Bool.{Bool, true, cond, _&&_}
 use mathlib.Core.List.{List, [], _++_}
 use lib.Dec.{eqb}
 use lib.ListN.{length}
-use Rattle.ground.specs.Packing.{rowBytes}
 use Rattle.state.specs.State.{validPanel}
 use Rattle.display.specs.Frame.{frameFits}
 use Rattle.controller.specs.Types.{Panel}
 use Rattle.printed.specs.Printed.{refusalLine, firstLine, frameLines, Printed, printText}
-
--- 8·L·R, of a valid panel
-abbrev pub frameBytes : Panel → ℕ
-frameBytes p = cond (validPanel p) (8 * p .lines * rowBytes (p .columns) (p .width)) 0
 
 -- the rows of a screen that was not refused
 abbrev pub screenLines : Panel → ℕ → List ℕ → List ℕ

@@ -1,9 +1,7 @@
 // What the log program prints, as bytes in a lent room.
 ghost use mathlib.Core.Path.{_≡_};
-ghost use Prim.Native.Nat.{_+_, _*_, _≤_};
-ghost use lib.ListN.{length};
+ghost use Prim.Native.Nat.{_≤_};
 ghost use Rattle.ground.specs.Lists.{zeros};
-ghost use Rattle.ground.specs.Packing.{rowBytes};
 ghost use Rattle.display.specs.Frame.{frameOf};
 ghost use Rattle.controller.specs.Run.{ranAll};
 ghost use Rattle.printed.specs.Put.{Put};
@@ -41,14 +39,6 @@ fn put_frame(
     put_frame_lines(out, at, panel, frame)
 }
 
-// 8·L·R, the bytes of a frame.
-pub(crate) fn frame_size(panel: Panel) -> usize
-    requires { ⌜ (panel .lines ≤ 16) × (panel .columns * panel .width ≤ 640) ⌝ }
-    ensures { λ r. ⌜ r ≡ 8 * panel .lines * rowBytes (panel .columns) (panel .width) ⌝ }
-{
-    8 * panel.lines * ((panel.columns * panel.width + 7) / 8)
-}
-
 // What a run came to; on refusals 1 and 8 the first line only.
 fn put_ran(
     panel: Panel,
@@ -69,7 +59,7 @@ fn put_ran(
     }
     let next = put_hex_lines(out, at, ran.answers, answers);
     let registers = ran.registers;
-    let size = frame_size(panel);
+    let size = panel.frame_size();
     put_frame(panel, registers, memory, rom, &mut frame[..size], out, next)
 }
 

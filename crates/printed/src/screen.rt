@@ -3,21 +3,12 @@ ghost use mathlib.Core.Path.{_≡_};
 ghost use Prim.Native.Nat.{_≤_};
 ghost use Rattle.printed.specs.Put.{Put};
 ghost use Rattle.printed.specs.Printed.{printed};
-ghost use Rattle.printed.specs.Screen.{frameBytes, framed, screenLines, printPictureOf, printRehearsalOf};
+ghost use Rattle.printed.specs.Screen.{framed, screenLines, printPictureOf, printRehearsalOf};
 ghost use Rattle.printed.specs.Ready.{Lines};
-use crate::print::frame_size;
 use crate::put::put_first_line;
 use crate::put::put_frame_lines;
 use crate::put::put_refusal;
 use state::panel::Panel;
-
-// 8·L·R, the bytes of a valid panel's frame; 0 where it is not valid.
-pub fn frame_bytes(panel: Panel) -> usize
-    ensures { λ r. ⌜ r ≡ frameBytes panel ⌝ }
-    ensures { λ r. ⌜ r ≤ 10240 ⌝ }
-{
-    if panel.valid() { frame_size(panel) } else { 0 }
-}
 
 // A screen that was not refused has a valid panel and its frame.
 pub(crate) fn is_framed(panel: Panel, number: u8, frame: &[u8]) -> bool
@@ -27,7 +18,7 @@ pub(crate) fn is_framed(panel: Panel, number: u8, frame: &[u8]) -> bool
         return true;
     }
     if panel.valid() {
-        let size = frame_size(panel);
+        let size = panel.frame_size();
         frame.len() == size
     } else {
         false

@@ -21,7 +21,8 @@ use Rattle.rehearsal.specs.declared.rehearse.Rehearsed.{Rehearsed}
 use Rattle.rehearsal.specs.Rehearsed.{Rehearsal, rehearsedAll, refusal, shownOf, rehearseScreen, rehearseOf}
 use Rattle.printed.specs.declared.told.Told.{Told}
 use Rattle.printed.specs.Printed.{panelIn, firstLine, frameLines, printed, printText, Reported, reported}
-use Rattle.printed.specs.Screen.{frameBytes, rehearsalText, framed, printRehearsalOf}
+use Rattle.state.specs.Sizes.{frameSize, validSize}
+use Rattle.printed.specs.Screen.{rehearsalText, framed, printRehearsalOf}
 use Rattle.printed.proofs.Screens.{line-alone, may-print}
 use Rattle.printed.proofs.Texts.{printed-within, reported-settled}
 use Rattle.rehearse.specs.Rehearsing.{rehearsed, rehearsedNumber, rehearseText, rehearseTextOf}
@@ -66,7 +67,7 @@ module _ (p : Panel) (book : List ℕ) (number : ℕ) (mem rom room frame : List
       go false = refl
   screen-number l (refused n place) = refl
 
-  module _ (lent : lentLengths mem rom ≡ true) (sized : length frame ≡ frameBytes p) where
+  module _ (lent : lentLengths mem rom ≡ true) (sized : length frame ≡ validSize p (frameSize p)) where
     frame-fits : validPanel p ≡ true → (f : List ℕ) → length f ≡ length frame → (validPanel p && frameFits p f) ≡ true
     frame-fits v f k =
         both v
@@ -113,7 +114,7 @@ module _ (p : Panel) (book : List ℕ) (number : ℕ) (mem rom room frame : List
 
 -- the whole text
 pub rehearse-all : (input out mem rom room frame : List ℕ) {p : Panel} {number : ℕ} {r : Registers} {book : List ℕ} → p ≡ panelIn input → number ≡ getD input 3 0
-    → book ≡ drop 4 input → r ≡ resetRegisters → length mem ≡ 65536 → length rom ≡ 1024 → length frame ≡ frameBytes p → length room ≡ 2097152
+    → book ≡ drop 4 input → r ≡ resetRegisters → length mem ≡ 65536 → length rom ≡ 1024 → length frame ≡ validSize p (frameSize p) → length room ≡ 2097152
     → {x : Rehearsed} {m b f : List ℕ} → rehearsedAll x m b f ≡ rehearseOf p r mem rom book number room frame → length f ≡ length frame
     → {w : ℕ} {o : List ℕ} → printed w o ≡ printRehearsalOf p (x .pairs) (x .number) (x .place) f out
     → reported (record { count = w; number = x .number }) o ≡ rehearseTextOf rom input out

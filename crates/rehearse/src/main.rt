@@ -3,7 +3,7 @@
 ghost use mathlib.Core.Path.{_≡_};
 ghost use lib.ListN.{length};
 ghost use Rattle.printed.specs.Printed.{panelIn, reported};
-ghost use Rattle.printed.specs.Screen.{frameBytes};
+ghost use Rattle.state.specs.Sizes.{frameSize, validSize};
 ghost use Rattle.rehearse.specs.Rehearsing.{rehearseTextOf};
 use libc::STDIN_FILENO;
 use libc::STDOUT_FILENO;
@@ -12,7 +12,6 @@ use printed::fill::empty_memory;
 use printed::input::byte_in;
 use printed::input::panel_in;
 use printed::input::rest_in;
-use printed::screen::frame_bytes;
 use printed::screen::print_rehearsal;
 use printed::told::Told;
 use rehearsal::rehearse::rehearse;
@@ -39,7 +38,7 @@ fn print_screen(
     out: &mut [u8],
 ) -> Told
     requires { ⌜ panel ≡ panelIn (now input) ⌝ }
-    requires { ⌜ (length (now memory) ≡ 65536) × (length (now rom) ≡ 1024) × (length (now frame) ≡ frameBytes panel) ⌝ }
+    requires { ⌜ (length (now memory) ≡ 65536) × (length (now rom) ≡ 1024) × (length (now frame) ≡ validSize panel (frameSize panel)) ⌝ }
     ensures { λ r. ⌜ reported r (now (out .exit)) ≡ rehearseTextOf (now (rom .entry)) (now (input .entry)) (now (out .entry)) ⌝ }
 {
     let number = byte_in(input, 3) as usize;
@@ -77,7 +76,7 @@ fn rehearse_text(rom: &[u8], input: &[u8], out: &mut [u8]) -> Told
     ensures { λ r. ⌜ reported r (now (out .exit)) ≡ rehearseTextOf (now (rom .entry)) (now (input .entry)) (now (out .entry)) ⌝ }
 {
     let panel = panel_in(input);
-    let bytes = frame_bytes(panel);
+    let bytes = panel.frame_size();
     let mut memory = empty_memory();
     let mut frame = [0u8; 10240];
     print_screen(input, panel, &mut memory, rom, &mut frame[..bytes], out)

@@ -13,7 +13,6 @@ use printed::input::panel_in;
 use printed::parts::print_answers;
 use printed::parts::print_line;
 use printed::parts::print_rows;
-use printed::screen::frame_bytes;
 use report::read_exact;
 use report::read_whole;
 use report::report;
@@ -117,7 +116,7 @@ fn show(panel: Panel, ran: Ran, memory: &[u8], rom: &[u8]) -> bool {
         return written;
     }
     let registers = ran.registers;
-    let size = frame_bytes(panel);
+    let size = panel.frame_size();
     let mut frame = [0u8; 10240];
     let mut out = [0u8; 131072];
     let count = put_rows(panel, registers, memory, rom, &mut frame[..size], &mut out);

@@ -1,5 +1,6 @@
 // The panel.
 ghost use mathlib.Core.Path.{_≡_};
+ghost use Prim.Native.Nat.{_≤_};
 ghost use Rattle.state.specs.State.{validPanel};
 ghost use Rattle.state.specs.Sizes.{rowSize, frameSize, cellCount, validSize};
 
@@ -35,6 +36,7 @@ impl Panel {
     // 8·L·R, the bytes of a frame.
     pub fn frame_size(self) -> usize
         ensures { λ r. ⌜ r ≡ validSize self (frameSize self) ⌝ }
+        ensures { λ r. ⌜ r ≤ 10240 ⌝ }
     {
         if self.valid() {
             8 * self.lines * self.row_size()
@@ -46,6 +48,7 @@ impl Panel {
     // C·L, the text plane's bytes.
     pub fn cell_count(self) -> usize
         ensures { λ r. ⌜ r ≡ validSize self (cellCount self) ⌝ }
+        ensures { λ r. ⌜ r ≤ 1280 ⌝ }
     {
         if self.valid() {
             self.lines * self.columns

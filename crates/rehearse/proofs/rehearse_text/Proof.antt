@@ -8,8 +8,8 @@ use Rattle.rehearse.proofs.rehearse_text.Tie as tie
 panel-in-requires : tie.Need-panel-in-requires
 panel-in-requires c κs = search needs
 
-frame-bytes-requires : tie.Need-frame-bytes-requires
-frame-bytes-requires c κs = search needs
+frame-size-requires : tie.Need-frame-size-requires
+frame-size-requires c κs = search needs
 
 empty-memory-requires : tie.Need-empty-memory-requires
 empty-memory-requires c κs = search needs
@@ -22,11 +22,11 @@ array-borrow-prefix-frame c = search needs
 
 slice-aggregate-print-screen-2 : tie.Need-slice-aggregate-print-screen-2
 slice-aggregate-print-screen-2 c =
-    sym (cut (c .before .before .before .frame-bytes .result) 10240 (c .before .before .before .frame-bytes .ensures .1))
+    sym (cut (c .before .before .before .frame-size .result) 10240 (c .before .before .before .frame-size .ensures .1))
 
 print-screen-requires : tie.Need-print-screen-requires
 print-screen-requires c κs =
-    let bytes = c .before .before .before .before .frame-bytes in
+    let bytes = c .before .before .before .before .frame-size in
     (c .before .before .before .before .before .panel-in .ensures, (sym (c .before .before .before .empty-memory .ensures .1), c .before .before .before .before .before .before .before .before .before .pre, cut (bytes .result) 10240 (bytes .ensures .1) ∙ bytes .ensures .0))
 
 same-length : tie.Need-same-length
@@ -40,7 +40,7 @@ rehearse-text-spec =
     tie.close
     (tie.spec
     panel-in-requires
-    frame-bytes-requires
+    frame-size-requires
     empty-memory-requires
     slice-aggregate-print-screen
     array-borrow-prefix-frame

@@ -23,14 +23,14 @@ write-all-requires c κs = search needs
 returns : tie.Need-returns
 returns c = search needs
 
-frame-bytes-requires : tie.Need-frame-bytes-requires
-frame-bytes-requires c κs = search needs
+frame-size-requires : tie.Need-frame-size-requires
+frame-size-requires c κs = search needs
 
 array-borrow-prefix-frame : tie.Need-array-borrow-prefix-frame
 array-borrow-prefix-frame c = search needs
 
 slice-aggregate-put-rows : tie.Need-slice-aggregate-put-rows
-slice-aggregate-put-rows c = sym (cut (c .before .frame-bytes .result) 10240 (c .before .frame-bytes .ensures .1))
+slice-aggregate-put-rows c = sym (cut (c .before .frame-size .result) 10240 (c .before .frame-size .ensures .1))
 
 slice-aggregate-put-rows-2 : tie.Need-slice-aggregate-put-rows-2
 slice-aggregate-put-rows-2 c = search needs
@@ -60,7 +60,7 @@ show-spec =
     slice-aggregate-write-all
     write-all-requires
     returns
-    frame-bytes-requires
+    frame-size-requires
     array-borrow-prefix-frame
     slice-aggregate-put-rows
     slice-aggregate-put-rows-2

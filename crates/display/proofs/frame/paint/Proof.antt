@@ -22,7 +22,7 @@ paint-rows-requires c κs =
     let j = c .before .before .before .before .before .before .valid2 .ensures in
     let e = c .before .before .before .before .before .if1 .taken in
     let k = c .before .before .before .before .row-size .ensures in
-    let m = c .before .before .before .frame-size .ensures in
+    let m = c .before .before .before .frame-size .ensures .0 in
     let h = c .before .before .if2 .taken in
     let s = c .before .before .before .before .before .before .before .before .before .before .before .args in
     (painting-drawable (s .panel) (s .registers) (s .mem .now) (s .rom .now) (s .frame .now) i j e m h, (row-is (s .panel) (s .registers) (s .mem .now) (s .rom .now) (s .frame .now) i j e m k, painting-length (s .panel) (s .registers) (s .mem .now) (s .rom .now) (s .frame .now) i j e m h k))
@@ -32,11 +32,11 @@ same-length c = search needs
 
 returns : tie.Need-returns
 returns c =
-    painting-0 _ _ _ _ _ (c .before .before .before .before .before .before .before .before .before .before .valid .ensures) (c .before .before .before .before .before .before .before .before .before .valid2 .ensures) (c .before .before .before .before .before .before .before .before .if1 .taken) (c .before .before .before .before .before .before .frame-size .ensures) (c .before .before .before .before .before .if2 .taken)
+    painting-0 _ _ _ _ _ (c .before .before .before .before .before .before .before .before .before .before .valid .ensures) (c .before .before .before .before .before .before .before .before .before .valid2 .ensures) (c .before .before .before .before .before .before .before .before .if1 .taken) (c .before .before .before .before .before .before .frame-size .ensures .0) (c .before .before .before .before .before .if2 .taken)
     (c .before .before .paint-rows .ensures)
 
 returns-2 : tie.Need-returns-2
-returns-2 c = painting-2 _ _ _ _ _ (c .before .before .before .before .before .valid .ensures) (c .before .before .before .before .valid2 .ensures) (c .before .before .before .if1 .taken) (c .before .frame-size .ensures) (c .if2 .left)
+returns-2 c = painting-2 _ _ _ _ _ (c .before .before .before .before .before .valid .ensures) (c .before .before .before .before .valid2 .ensures) (c .before .before .before .if1 .taken) (c .before .frame-size .ensures .0) (c .if2 .left)
 
 returns-3 : tie.Need-returns-3
 returns-3 c = painting-1 _ _ _ _ _ (c .before .before .valid .ensures) (c .before .valid2 .ensures) (c .if1 .left)

@@ -2,9 +2,12 @@
 use mathlib.Core.Path.{sym, _∙_}
 use native.Mathlib.Omega.{arith}
 use lib.Seq.{length-take-le}
+use Rattle.ground.proofs.Tests.{both-left}
+use Rattle.state.specs.State.{validRegisters}
+use Rattle.state.proofs.Sizes.{is-size}
 use Rattle.display.specs.Frame.{frameOf}
 use Rattle.controller.specs.Run.{ranAll}
-use Rattle.printed.proofs.Prints.{dots-few, frame-few, lines-few, text-short, text-long, hex-lines-length, frame-lines-length, ready-valid, ready-panel}
+use Rattle.printed.proofs.Prints.{lines-few, text-short, text-long, hex-lines-length, frame-lines-length, ready-valid, ready-panel}
 use borrow.Author.Needs.{needs}
 use Rattle.printed.proofs.print.put_ran.Statement.{statement}
 use Rattle.printed.proofs.print.put_ran.Tie as tie
@@ -24,22 +27,17 @@ put-hex-lines-requires : tie.Need-put-hex-lines-requires
 put-hex-lines-requires c κs = search needs
 
 frame-size-requires : tie.Need-frame-size-requires
-frame-size-requires c κs =
-    let s = c .before .before .before .before .before .before .before .before .before .before .before .before .before .before .before .before .before in
-    let q = ready-panel (s .args .panel) (s .args .ran) (s .pre) (c .before .before .before .before .before .if1 .left) in
-    (q .lines, dots-few (s .args .panel) q)
+frame-size-requires c κs = search needs
 
 slice-relend-prefix-put-frame : tie.Need-slice-relend-prefix-put-frame
 slice-relend-prefix-put-frame c =
     let s = c .before .before .before .before .before .before .before .before .before .before .before .before .before .before .before .before .before .before in
-    let q = ready-panel (s .args .panel) (s .args .ran) (s .pre) (c .before .before .before .before .before .before .if1 .left) in
-    omega (arith, c .frame-size .ensures, frame-few (s .args .panel) q, s .pre .framed)
+    omega (arith, c .frame-size .ensures .1, s .pre .framed)
 
 slice-aggregate-put-frame : tie.Need-slice-aggregate-put-frame
 slice-aggregate-put-frame c =
     let s = c .before .before .before .before .before .before .before .before .before .before .before .before .before .before .before .before .before .before .before in
-    let q = ready-panel (s .args .panel) (s .args .ran) (s .pre) (c .before .before .before .before .before .before .before .if1 .left) in
-    sym (length-take-le (c .before .frame-size .result) (s .args .frame .now) (omega (arith, c .before .frame-size .ensures, frame-few (s .args .panel) q, s .pre .framed)))
+    sym (length-take-le (c .before .frame-size .result) (s .args .frame .now) (omega (arith, c .before .frame-size .ensures .1, s .pre .framed)))
 
 put-frame-requires : tie.Need-put-frame-requires
 put-frame-requires c κs =
@@ -48,7 +46,7 @@ put-frame-requires c κs =
     record {
       valid = ready-valid (s .args .panel) (s .args .ran) (s .pre) (c .before .before .before .before .before .before .before .before .if1 .left);
       lent = s .pre .lent;
-      sized = length-take-le (c .before .before .frame-size .result) (s .args .frame .now) (omega (arith, c .before .before .frame-size .ensures, frame-few (s .args .panel) q, s .pre .framed)) ∙ c .before .before .frame-size .ensures;
+      sized = length-take-le (c .before .before .frame-size .result) (s .args .frame .now) (omega (arith, c .before .before .frame-size .ensures .1, s .pre .framed)) ∙ is-size (s .args .panel) (both-left _ (validRegisters (s .args .ran .registers)) (ready-valid (s .args .panel) (s .args .ran) (s .pre) (c .before .before .before .before .before .before .before .before .if1 .left))) (c .before .before .frame-size .ensures .0);
       room = omega (arith, lines-few (s .args .panel) q, c .before .before .before .before .before .before .before .before .before .before .before .before .before .put-first-line .ensures .1, c .before .before .before .before .before .before .put-hex-lines .ensures .ends, hex-lines-length (s .args .ran .answers) (s .args .answers .now), s .pre .given, s .pre .answered, s .pre .roomy, c .before .before .before .before .before .before .before .before .before .before .before .before .before .put-first-line .kept, c .before .before .before .before .before .before .put-hex-lines .kept);
     }
 

@@ -1,7 +1,5 @@
 -- `is_framed` meets its contract.
 use mathlib.Core.Path.{sym, _∙_}
-use Rattle.state.proofs.Valid.{panelled}
-use Rattle.printed.proofs.Prints.{dots-few}
 use Rattle.printed.proofs.Screens.{framed-refused, framed-invalid, framed-sized}
 use borrow.Author.Needs.{needs}
 use Rattle.printed.proofs.screen.is_framed.Statement.{statement}
@@ -14,15 +12,12 @@ valid-requires : tie.Need-valid-requires
 valid-requires c κs = search needs
 
 frame-size-requires : tie.Need-frame-size-requires
-frame-size-requires c κs =
-    let s = c .before .before .before .before .args in
-    let q = panelled (s .panel) (sym (c .before .valid .ensures) ∙ c .if2 .taken) in
-    (q .lines, dots-few (s .panel) q)
+frame-size-requires c κs = search needs
 
 returns-2 : tie.Need-returns-2
 returns-2 c =
     let s = c .before .before .before .before .before .args in
-    framed-sized (s .panel) (s .number) (s .frame .now) (c .before .before .before .if1 .left) (sym (c .before .before .valid .ensures) ∙ c .before .if2 .taken) (c .frame-size .ensures)
+    framed-sized (s .panel) (s .number) (s .frame .now) (c .before .before .before .if1 .left) (sym (c .before .before .valid .ensures) ∙ c .before .if2 .taken) (c .frame-size .ensures .0)
 
 returns-3 : tie.Need-returns-3
 returns-3 c =

@@ -32,7 +32,7 @@ refuse-requires-2 c κs = search needs
 returns-2 : tie.Need-returns-2
 returns-2 c =
     let s = c .before .before .before .before .before .before .before .before .before .before .before .args in
-    rehearse-2 (s .panel) (s .registers) (s .memory .now) (s .rom .now) (s .book .now) (s .number) (s .room .now) (s .frame .now) (valid-is (s .panel) (s .registers) (s .memory .now) (s .rom .now) (s .book .now) (s .number) (s .room .now) (s .frame .now) true (c .before .before .before .before .before .valid .ensures) (c .before .before .before .before .valid2 .ensures) (not-false _ (c .before .before .before .if1 .left))) (fits-is (s .panel) (s .registers) (s .memory .now) (s .rom .now) (s .book .now) (s .number) (s .room .now) (s .frame .now) false (valid-is (s .panel) (s .registers) (s .memory .now) (s .rom .now) (s .book .now) (s .number) (s .room .now) (s .frame .now) true (c .before .before .before .before .before .valid .ensures) (c .before .before .before .before .valid2 .ensures) (not-false _ (c .before .before .before .if1 .left))) (c .before .before .frame-size .ensures) (not-true _ (c .before .if2 .taken))) (c .refuse2 .ensures)
+    rehearse-2 (s .panel) (s .registers) (s .memory .now) (s .rom .now) (s .book .now) (s .number) (s .room .now) (s .frame .now) (valid-is (s .panel) (s .registers) (s .memory .now) (s .rom .now) (s .book .now) (s .number) (s .room .now) (s .frame .now) true (c .before .before .before .before .before .valid .ensures) (c .before .before .before .before .valid2 .ensures) (not-false _ (c .before .before .before .if1 .left))) (fits-is (s .panel) (s .registers) (s .memory .now) (s .rom .now) (s .book .now) (s .number) (s .room .now) (s .frame .now) false (valid-is (s .panel) (s .registers) (s .memory .now) (s .rom .now) (s .book .now) (s .number) (s .room .now) (s .frame .now) true (c .before .before .before .before .before .valid .ensures) (c .before .before .before .before .valid2 .ensures) (not-false _ (c .before .before .before .if1 .left))) (c .before .before .frame-size .ensures .0) (not-true _ (c .before .if2 .taken))) (c .refuse2 .ensures)
 
 write-requires : tie.Need-write-requires
 write-requires c κs = search needs
@@ -46,22 +46,22 @@ same-length c = search needs
 returns-3 : tie.Need-returns-3
 returns-3 c =
     let s = c .before .before .before .before .before .before .before .before .before .before .before .before .before .before .before .before .before .args in
-    rehearse-refused (s .panel) (s .registers) (s .memory .now) (s .rom .now) (s .book .now) (s .number) (s .room .now) (s .frame .now) (valid-is (s .panel) (s .registers) (s .memory .now) (s .rom .now) (s .book .now) (s .number) (s .room .now) (s .frame .now) true (c .before .before .before .before .before .before .before .before .before .before .before .valid .ensures) (c .before .before .before .before .before .before .before .before .before .before .valid2 .ensures) (not-false _ (c .before .before .before .before .before .before .before .before .before .if1 .left))) (fits-is (s .panel) (s .registers) (s .memory .now) (s .rom .now) (s .book .now) (s .number) (s .room .now) (s .frame .now) true (valid-is (s .panel) (s .registers) (s .memory .now) (s .rom .now) (s .book .now) (s .number) (s .room .now) (s .frame .now) true (c .before .before .before .before .before .before .before .before .before .before .before .valid .ensures) (c .before .before .before .before .before .before .before .before .before .before .valid2 .ensures) (not-false _ (c .before .before .before .before .before .before .before .before .before .if1 .left))) (c .before .before .before .before .before .before .before .before .frame-size .ensures) (not-false _ (c .before .before .before .before .before .before .before .if2 .left))) (c .before .before .before .before .before .write .ensures) (c .before .if3 .taken) (c .refuse3 .ensures)
+    rehearse-refused (s .panel) (s .registers) (s .memory .now) (s .rom .now) (s .book .now) (s .number) (s .room .now) (s .frame .now) (valid-is (s .panel) (s .registers) (s .memory .now) (s .rom .now) (s .book .now) (s .number) (s .room .now) (s .frame .now) true (c .before .before .before .before .before .before .before .before .before .before .before .valid .ensures) (c .before .before .before .before .before .before .before .before .before .before .valid2 .ensures) (not-false _ (c .before .before .before .before .before .before .before .before .before .if1 .left))) (fits-is (s .panel) (s .registers) (s .memory .now) (s .rom .now) (s .book .now) (s .number) (s .room .now) (s .frame .now) true (valid-is (s .panel) (s .registers) (s .memory .now) (s .rom .now) (s .book .now) (s .number) (s .room .now) (s .frame .now) true (c .before .before .before .before .before .before .before .before .before .before .before .valid .ensures) (c .before .before .before .before .before .before .before .before .before .before .valid2 .ensures) (not-false _ (c .before .before .before .before .before .before .before .before .before .if1 .left))) (c .before .before .before .before .before .before .before .before .frame-size .ensures .0) (not-false _ (c .before .before .before .before .before .before .before .if2 .left))) (c .before .before .before .before .before .write .ensures) (c .before .if3 .taken) (c .refuse3 .ensures)
 
 mul-end : tie.Need-mul-end
 mul-end c =
     let s = c .before .before .before .before .before .before .before .before .before .before .before .before .before .before .before .before .before .args in
-    omega (arith, streamed (s .panel) (s .registers) (s .memory .now) (s .rom .now) (s .book .now) (s .number) (s .room .now) (s .frame .now) (valid-is (s .panel) (s .registers) (s .memory .now) (s .rom .now) (s .book .now) (s .number) (s .room .now) (s .frame .now) true (c .before .before .before .before .before .before .before .before .before .before .before .valid .ensures) (c .before .before .before .before .before .before .before .before .before .before .valid2 .ensures) (not-false _ (c .before .before .before .before .before .before .before .before .before .if1 .left))) (fits-is (s .panel) (s .registers) (s .memory .now) (s .rom .now) (s .book .now) (s .number) (s .room .now) (s .frame .now) true (valid-is (s .panel) (s .registers) (s .memory .now) (s .rom .now) (s .book .now) (s .number) (s .room .now) (s .frame .now) true (c .before .before .before .before .before .before .before .before .before .before .before .valid .ensures) (c .before .before .before .before .before .before .before .before .before .before .valid2 .ensures) (not-false _ (c .before .before .before .before .before .before .before .before .before .if1 .left))) (c .before .before .before .before .before .before .before .before .frame-size .ensures) (not-false _ (c .before .before .before .before .before .before .before .if2 .left))) (c .before .before .before .before .before .write .ensures) (λ i. c .before .before .before .before .before .before .before .before .before .before .before .before .before .before .shared-slice-known2 .given i .fits) (c .before .if3 .left) .few)
+    omega (arith, streamed (s .panel) (s .registers) (s .memory .now) (s .rom .now) (s .book .now) (s .number) (s .room .now) (s .frame .now) (valid-is (s .panel) (s .registers) (s .memory .now) (s .rom .now) (s .book .now) (s .number) (s .room .now) (s .frame .now) true (c .before .before .before .before .before .before .before .before .before .before .before .valid .ensures) (c .before .before .before .before .before .before .before .before .before .before .valid2 .ensures) (not-false _ (c .before .before .before .before .before .before .before .before .before .if1 .left))) (fits-is (s .panel) (s .registers) (s .memory .now) (s .rom .now) (s .book .now) (s .number) (s .room .now) (s .frame .now) true (valid-is (s .panel) (s .registers) (s .memory .now) (s .rom .now) (s .book .now) (s .number) (s .room .now) (s .frame .now) true (c .before .before .before .before .before .before .before .before .before .before .before .valid .ensures) (c .before .before .before .before .before .before .before .before .before .before .valid2 .ensures) (not-false _ (c .before .before .before .before .before .before .before .before .before .if1 .left))) (c .before .before .before .before .before .before .before .before .frame-size .ensures .0) (not-false _ (c .before .before .before .before .before .before .before .if2 .left))) (c .before .before .before .before .before .write .ensures) (λ i. c .before .before .before .before .before .before .before .before .before .before .before .before .before .before .shared-slice-known2 .given i .fits) (c .before .if3 .left) .few)
 
 slice-reshare-prefix-run : tie.Need-slice-reshare-prefix-run
 slice-reshare-prefix-run c =
     let s = c .before .before .before .before .before .before .before .before .before .before .before .before .before .before .before .before .before .before .args in
-    omega (arith, streamed (s .panel) (s .registers) (s .memory .now) (s .rom .now) (s .book .now) (s .number) (s .room .now) (s .frame .now) (valid-is (s .panel) (s .registers) (s .memory .now) (s .rom .now) (s .book .now) (s .number) (s .room .now) (s .frame .now) true (c .before .before .before .before .before .before .before .before .before .before .before .before .valid .ensures) (c .before .before .before .before .before .before .before .before .before .before .before .valid2 .ensures) (not-false _ (c .before .before .before .before .before .before .before .before .before .before .if1 .left))) (fits-is (s .panel) (s .registers) (s .memory .now) (s .rom .now) (s .book .now) (s .number) (s .room .now) (s .frame .now) true (valid-is (s .panel) (s .registers) (s .memory .now) (s .rom .now) (s .book .now) (s .number) (s .room .now) (s .frame .now) true (c .before .before .before .before .before .before .before .before .before .before .before .before .valid .ensures) (c .before .before .before .before .before .before .before .before .before .before .before .valid2 .ensures) (not-false _ (c .before .before .before .before .before .before .before .before .before .before .if1 .left))) (c .before .before .before .before .before .before .before .before .before .frame-size .ensures) (not-false _ (c .before .before .before .before .before .before .before .before .if2 .left))) (c .before .before .before .before .before .before .write .ensures) (λ i. c .before .before .before .before .before .before .before .before .before .before .before .before .before .before .before .shared-slice-known2 .given i .fits) (c .before .before .if3 .left) .fits, c .before .before .before .before .before .before .write .kept)
+    omega (arith, streamed (s .panel) (s .registers) (s .memory .now) (s .rom .now) (s .book .now) (s .number) (s .room .now) (s .frame .now) (valid-is (s .panel) (s .registers) (s .memory .now) (s .rom .now) (s .book .now) (s .number) (s .room .now) (s .frame .now) true (c .before .before .before .before .before .before .before .before .before .before .before .before .valid .ensures) (c .before .before .before .before .before .before .before .before .before .before .before .valid2 .ensures) (not-false _ (c .before .before .before .before .before .before .before .before .before .before .if1 .left))) (fits-is (s .panel) (s .registers) (s .memory .now) (s .rom .now) (s .book .now) (s .number) (s .room .now) (s .frame .now) true (valid-is (s .panel) (s .registers) (s .memory .now) (s .rom .now) (s .book .now) (s .number) (s .room .now) (s .frame .now) true (c .before .before .before .before .before .before .before .before .before .before .before .before .valid .ensures) (c .before .before .before .before .before .before .before .before .before .before .before .valid2 .ensures) (not-false _ (c .before .before .before .before .before .before .before .before .before .before .if1 .left))) (c .before .before .before .before .before .before .before .before .before .frame-size .ensures .0) (not-false _ (c .before .before .before .before .before .before .before .before .if2 .left))) (c .before .before .before .before .before .before .write .ensures) (λ i. c .before .before .before .before .before .before .before .before .before .before .before .before .before .before .before .shared-slice-known2 .given i .fits) (c .before .before .if3 .left) .fits, c .before .before .before .before .before .before .write .kept)
 
 slice-aggregate-run : tie.Need-slice-aggregate-run
 slice-aggregate-run c =
     let s = c .before .before .before .before .before .before .before .before .before .before .before .before .before .before .before .before .before .before .before .args in
-    sym (length-take-le _ _ (omega (arith, streamed (s .panel) (s .registers) (s .memory .now) (s .rom .now) (s .book .now) (s .number) (s .room .now) (s .frame .now) (valid-is (s .panel) (s .registers) (s .memory .now) (s .rom .now) (s .book .now) (s .number) (s .room .now) (s .frame .now) true (c .before .before .before .before .before .before .before .before .before .before .before .before .before .valid .ensures) (c .before .before .before .before .before .before .before .before .before .before .before .before .valid2 .ensures) (not-false _ (c .before .before .before .before .before .before .before .before .before .before .before .if1 .left))) (fits-is (s .panel) (s .registers) (s .memory .now) (s .rom .now) (s .book .now) (s .number) (s .room .now) (s .frame .now) true (valid-is (s .panel) (s .registers) (s .memory .now) (s .rom .now) (s .book .now) (s .number) (s .room .now) (s .frame .now) true (c .before .before .before .before .before .before .before .before .before .before .before .before .before .valid .ensures) (c .before .before .before .before .before .before .before .before .before .before .before .before .valid2 .ensures) (not-false _ (c .before .before .before .before .before .before .before .before .before .before .before .if1 .left))) (c .before .before .before .before .before .before .before .before .before .before .frame-size .ensures) (not-false _ (c .before .before .before .before .before .before .before .before .before .if2 .left))) (c .before .before .before .before .before .before .before .write .ensures) (λ i. c .before .before .before .before .before .before .before .before .before .before .before .before .before .before .before .before .shared-slice-known2 .given i .fits) (c .before .before .before .if3 .left) .fits, c .before .before .before .before .before .before .before .write .kept)))
+    sym (length-take-le _ _ (omega (arith, streamed (s .panel) (s .registers) (s .memory .now) (s .rom .now) (s .book .now) (s .number) (s .room .now) (s .frame .now) (valid-is (s .panel) (s .registers) (s .memory .now) (s .rom .now) (s .book .now) (s .number) (s .room .now) (s .frame .now) true (c .before .before .before .before .before .before .before .before .before .before .before .before .before .valid .ensures) (c .before .before .before .before .before .before .before .before .before .before .before .before .valid2 .ensures) (not-false _ (c .before .before .before .before .before .before .before .before .before .before .before .if1 .left))) (fits-is (s .panel) (s .registers) (s .memory .now) (s .rom .now) (s .book .now) (s .number) (s .room .now) (s .frame .now) true (valid-is (s .panel) (s .registers) (s .memory .now) (s .rom .now) (s .book .now) (s .number) (s .room .now) (s .frame .now) true (c .before .before .before .before .before .before .before .before .before .before .before .before .before .valid .ensures) (c .before .before .before .before .before .before .before .before .before .before .before .before .valid2 .ensures) (not-false _ (c .before .before .before .before .before .before .before .before .before .before .before .if1 .left))) (c .before .before .before .before .before .before .before .before .before .before .frame-size .ensures .0) (not-false _ (c .before .before .before .before .before .before .before .before .before .if2 .left))) (c .before .before .before .before .before .before .before .write .ensures) (λ i. c .before .before .before .before .before .before .before .before .before .before .before .before .before .before .before .before .shared-slice-known2 .given i .fits) (c .before .before .before .if3 .left) .fits, c .before .before .before .before .before .before .before .write .kept)))
 
 slice-aggregate-run-2 : tie.Need-slice-aggregate-run-2
 slice-aggregate-run-2 c = search needs
@@ -84,7 +84,7 @@ same-length-4 c = search needs
 returns-4 : tie.Need-returns-4
 returns-4 c =
     let s = c .before .before .before .before .before .before .before .before .before .before .before .before .before .before .before .before .before .before .before .before .before .before .before .before .before .before .before .before .before .before .args in
-    rehearse-0 (s .panel) (s .registers) (s .memory .now) (s .rom .now) (s .book .now) (s .number) (s .room .now) (s .frame .now) (valid-is (s .panel) (s .registers) (s .memory .now) (s .rom .now) (s .book .now) (s .number) (s .room .now) (s .frame .now) true (c .before .before .before .before .before .before .before .before .before .before .before .before .before .before .before .before .before .before .before .before .before .before .before .before .valid .ensures) (c .before .before .before .before .before .before .before .before .before .before .before .before .before .before .before .before .before .before .before .before .before .before .before .valid2 .ensures) (not-false _ (c .before .before .before .before .before .before .before .before .before .before .before .before .before .before .before .before .before .before .before .before .before .before .if1 .left))) (fits-is (s .panel) (s .registers) (s .memory .now) (s .rom .now) (s .book .now) (s .number) (s .room .now) (s .frame .now) true (valid-is (s .panel) (s .registers) (s .memory .now) (s .rom .now) (s .book .now) (s .number) (s .room .now) (s .frame .now) true (c .before .before .before .before .before .before .before .before .before .before .before .before .before .before .before .before .before .before .before .before .before .before .before .before .valid .ensures) (c .before .before .before .before .before .before .before .before .before .before .before .before .before .before .before .before .before .before .before .before .before .before .before .valid2 .ensures) (not-false _ (c .before .before .before .before .before .before .before .before .before .before .before .before .before .before .before .before .before .before .before .before .before .before .if1 .left))) (c .before .before .before .before .before .before .before .before .before .before .before .before .before .before .before .before .before .before .before .before .before .frame-size .ensures) (not-false _ (c .before .before .before .before .before .before .before .before .before .before .before .before .before .before .before .before .before .before .before .before .if2 .left))) (c .before .before .before .before .before .before .before .before .before .before .before .before .before .before .before .before .before .before .write .ensures) (λ i. c .before .before .before .before .before .before .before .before .before .before .before .before .before .before .before .before .before .before .before .before .before .before .before .before .before .before .before .shared-slice-known2 .given i .fits) (c .before .before .before .before .before .before .before .before .before .before .before .before .before .before .if3 .left) _ (c .before .before .before .before .before .before .before .before .before .run .ensures) (c .before .before .paint .ensures)
+    rehearse-0 (s .panel) (s .registers) (s .memory .now) (s .rom .now) (s .book .now) (s .number) (s .room .now) (s .frame .now) (valid-is (s .panel) (s .registers) (s .memory .now) (s .rom .now) (s .book .now) (s .number) (s .room .now) (s .frame .now) true (c .before .before .before .before .before .before .before .before .before .before .before .before .before .before .before .before .before .before .before .before .before .before .before .before .valid .ensures) (c .before .before .before .before .before .before .before .before .before .before .before .before .before .before .before .before .before .before .before .before .before .before .before .valid2 .ensures) (not-false _ (c .before .before .before .before .before .before .before .before .before .before .before .before .before .before .before .before .before .before .before .before .before .before .if1 .left))) (fits-is (s .panel) (s .registers) (s .memory .now) (s .rom .now) (s .book .now) (s .number) (s .room .now) (s .frame .now) true (valid-is (s .panel) (s .registers) (s .memory .now) (s .rom .now) (s .book .now) (s .number) (s .room .now) (s .frame .now) true (c .before .before .before .before .before .before .before .before .before .before .before .before .before .before .before .before .before .before .before .before .before .before .before .before .valid .ensures) (c .before .before .before .before .before .before .before .before .before .before .before .before .before .before .before .before .before .before .before .before .before .before .before .valid2 .ensures) (not-false _ (c .before .before .before .before .before .before .before .before .before .before .before .before .before .before .before .before .before .before .before .before .before .before .if1 .left))) (c .before .before .before .before .before .before .before .before .before .before .before .before .before .before .before .before .before .before .before .before .before .frame-size .ensures .0) (not-false _ (c .before .before .before .before .before .before .before .before .before .before .before .before .before .before .before .before .before .before .before .before .if2 .left))) (c .before .before .before .before .before .before .before .before .before .before .before .before .before .before .before .before .before .before .write .ensures) (λ i. c .before .before .before .before .before .before .before .before .before .before .before .before .before .before .before .before .before .before .before .before .before .before .before .before .before .before .before .shared-slice-known2 .given i .fits) (c .before .before .before .before .before .before .before .before .before .before .before .before .before .before .if3 .left) _ (c .before .before .before .before .before .before .before .before .before .run .ensures) (c .before .before .paint .ensures)
 
 pub rehearse-spec : {M : Type 1} → statement M
 rehearse-spec =

@@ -32,10 +32,11 @@ returns : tie.Need-returns
 returns c =
     let p = c .before .before .before .before .args .self in
     let v : validPanel p ≡ true = sym (c .before .before .before .valid .ensures) ∙ c .before .before .if1 .taken in
-    ap (λ (n : ℕ). 8 * p .lines * n) (c .row-size .ensures ∙ a-size p v (rowSize p)) ∙ sym (a-size p v _)
+    let size = ap (λ (n : ℕ). 8 * p .lines * n) (c .row-size .ensures ∙ a-size p v (rowSize p)) in
+    (size ∙ sym (a-size p v _), le-trans (le-of-eq size) (frame-few p v))
 
 returns-2 : tie.Need-returns-2
-returns-2 c = sym (no-size (c .before .before .args .self) (sym (c .before .valid .ensures) ∙ c .if1 .left) _)
+returns-2 c = (sym (no-size (c .before .before .args .self) (sym (c .before .valid .ensures) ∙ c .if1 .left) _), omega arith)
 
 pub frame-size-spec : {M : Type 1} → statement M
 frame-size-spec =
