@@ -1,7 +1,7 @@
 # Sourced by logs and books: proved programs beside second ones, byte for byte. Before that `here` is this folder and `usage` the
 # command with what it takes. The last line is `N passed, M failed`.
 root=$(dirname "$here")
-. "$root/tools/program.sh"
+. "$root/tools/kit.sh"
 passed=0
 failed=0
 
@@ -37,18 +37,29 @@ built() {
     [ -x "$root/target/bin/$1" ] || fail "target/bin/$1 is missing: 'rt check $1' builds it"
 }
 
-# same WHAT PROVED SECOND: both say the same of $work/in, on standard output and on standard error
+# same WHAT PROVED SECOND: both say the same of $work/in, on standard output and on standard error, and the proved one reports the number
+# that is in it
 same() {
-    run "$2" <"$work/in" >"$work/proved.out" 2>"$work/proved.err"
+    run "$2" <"$work/in" >"$work/proved.out" 2>"$work/proved.err" 3>"$work/proved.report"
     "$work/$3" <"$work/in" >"$work/second.out" 2>"$work/second.err"
-    if cmp -s "$work/proved.out" "$work/second.out" && cmp -s "$work/proved.err" "$work/second.err"; then
+    ! grep -q ' refusal 8 ' "$work/second.out" || forget_answers
+    cat "$work/second.out" "$work/second.err" | sed -n 's/^.*refusal \([0-9]*\) place .*$/\1/p' >"$work/second.report"
+    [ -s "$work/second.report" ] || echo 0 >"$work/second.report"
+    if cmp -s "$work/proved.out" "$work/second.out" && cmp -s "$work/proved.err" "$work/second.err" &&
+        cmp -s "$work/proved.report" "$work/second.report"; then
         passed=$((passed + 1))
     else
         failed=$((failed + 1))
         echo "$name: $1 differs between $2 (<) and the second program's $3 (>)"
+        diff "$work/proved.report" "$work/second.report"
         diff "$work/proved.err" "$work/second.err" | head -n 5
         diff "$work/proved.out" "$work/second.out" | head -n 5
     fi
+}
+
+# forget_answers: of an odd log the replay program may have given some before it saw the end
+forget_answers() {
+    sed '/^[0-9A-F][0-9A-F]$/d' "$work/proved.out" >"$work/kept" && mv "$work/kept" "$work/proved.out"
 }
 
 # same_cases PROVED SECOND: the fixed cases of a second program

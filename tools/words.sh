@@ -1,0 +1,69 @@
+# Sourced by the front: refusals in words. The file is $work/in; the numbers are document 01's, and docs/NUMBERS.md has them all.
+
+# refuse_panel: 1
+refuse_panel() {
+    bytes "$work/in" 0 3 | awk '{
+        printf "refused: 1, the panel is not valid: columns %d (1 to 80), lines %d (1 to 16), width %d (6 or 8)\n", $1, $2, $3 }'
+}
+
+# refuse_log NUMBER PLACE: of a file with C, L, w and pairs; with the three pairs before the one refused
+refuse_log() {
+    case $1 in
+    1) refuse_panel ;;
+    8) echo "refused: 8, the log has an odd number of bytes: $2 pairs and one byte more (byte $((3 + 2 * $2)))" ;;
+    *)
+        tail -c +4 "$work/in" | head -c $((2 * $2 + 2)) | od -An -v -tu1 | awk -v number="$1" -v place="$2" '
+            function pair(at) {
+                return sprintf("pair %d (byte %d): ", at, 3 + 2 * at) named(kind[at % 4], byte[at % 4])
+            }
+            function named(k, b) {
+                if (k == 0) return sprintf("data %02X", b)
+                if (k == 1) return sprintf("command %02X", b)
+                if (k == 2) return "data read"
+                if (k == 3) return "status read"
+                if (k == 4) return "blink tick"
+                return sprintf("kind %d, byte %02X", k, b)
+            }
+            # A command is the last one where auto is on: then it is B0H or B1H.
+            {
+                for (i = 1; i < NF; i += 2) {
+                    if (n > 0 && kind[(n - 1) % 4] == 1) last = byte[(n - 1) % 4]
+                    kind[n % 4] = $i
+                    byte[n % 4] = $(i + 1)
+                    n++
+                }
+            }
+            END {
+                why["3"] = "a kind above 4"
+                why["4"] = "a command code that is not defined"
+                why["5"] = "a command other than B2H in auto " (last == 176 ? "write" : "read")
+                why["6"] = "a command with fewer data than it needs"
+                why["7"] = kind[place % 4] == 0 ? "data written in auto read" : "data read in auto write"
+                why["13"] = "an answer without room"
+                printf "refused: %d, %s: %s\n", number, number in why ? why[number] : "see docs/NUMBERS.md", pair(place)
+                for (at = place < 3 ? 0 : place - 3; at < place; at++) print "  before it: " pair(at)
+            }'
+        ;;
+    esac
+}
+
+# refuse_book NUMBER PLACE: of a file with C, L, w, a screen's number and a book
+refuse_book() {
+    screen=$(bytes "$work/in" 3 1)
+    at="byte $2 of the book (byte $((4 + $2)) of the file)"
+    case $1 in
+    1) refuse_panel ;;
+    9)
+        if [ "$2" != 0 ]; then
+            echo "refused: 9, the book's contents are wrong: entry $((($2 - 1) / 4)), $at"
+        else
+            echo "refused: 9, the book is empty or too long, has no screens or too many, or ends inside its contents: it has $(($(size "$work/in") - 4)) bytes"
+        fi
+        ;;
+    10) echo "refused: 10, there is no screen $((screen)): the book has $(($(bytes "$work/in" 4 1))), counted from 0" ;;
+    11)
+        echo "refused: 11, an operation that is unknown, cut off or out of range for the panel: $at: operation $(($(bytes "$work/in" $((4 + $2)) 1)))" ;;
+    12) echo "refused: 12, the stream is too long: it has $2 pairs" ;;
+    *) echo "refused: $1, see docs/NUMBERS.md: place $2" ;;
+    esac
+}
