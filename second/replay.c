@@ -27,10 +27,12 @@ int main(void)
         }
     }
     answers = malloc(length + 1);
-    if (input == NULL || answers == NULL || ferror(stdin) || length < HEAD) {
+    if (input == NULL || answers == NULL || ferror(stdin) || length < SECOND_ROM_LENGTH) {
         fputs("replay: too little memory, or standard input cannot be read or is too short\n", stderr);
         return 1;
     }
+    /* there is room behind the ROM; a missing byte counts as 0 */
+    while (length < HEAD) input[length++] = 0;
     panel.columns = input[SECOND_ROM_LENGTH];
     panel.lines = input[SECOND_ROM_LENGTH + 1];
     panel.width = input[SECOND_ROM_LENGTH + 2];

@@ -50,6 +50,8 @@ front() {
     read_words "$@"
     work=$(mktemp -d 2>/dev/null) || fail "no temporary folder can be made in '${TMPDIR:-/tmp}'"
     trap 'rm -rf "$work"' EXIT
+    # a limit on a file's size is an error to be told, as a full disk is
+    trap '' XFSZ
     trap 'stop 129' HUP
     trap 'stop 130' INT
     trap 'stop 143' TERM

@@ -21,7 +21,7 @@ misused() {
 
 # stop STATUS: on a signal, with what was started
 stop() {
-    [ -z "$child" ] || kill -TERM -- "-$child" 2>/dev/null || kill "$child" 2>/dev/null
+    [ -z "$child" ] || kill -s TERM -- "-$child" 2>/dev/null || kill "$child" 2>/dev/null
     exit "$1"
 }
 
@@ -93,7 +93,7 @@ build() {
     for tool in flock setsid mkfifo; do
         command -v $tool >/dev/null 2>&1 || fail "the $1 program is $state, and '$tool', which a build needs, is missing"
     done
-    lock=$root/target/building
+    lock=$root/target/lock
     mkdir -p "$root/target/kit" "$root/target/log" 2>/dev/null
     # a folder of another user, a file system that is read-only or full
     if ! (: >>"$lock" && [ -w "$root/target/kit" ] && [ -w "$root/target/log" ]) 2>/dev/null; then
