@@ -1,36 +1,94 @@
-/* The T6963C of crates/boundary, for C: link target/staticlib/libboundary.a, which `rt staticlib boundary` writes.
+/* The T6963C of crates/boundary, for C and C++: link target/staticlib/libboundary.a, which `rt staticlib boundary` proves and writes, for
+   x86-64. docs/C.md has the steps and an example, docs/RULES.md the controller's rules, docs/NUMBERS.md what to do about a number.
 
-   Every call answers every input. A buffer is a pointer, not null, and the number of its elements; no two buffers of a call may
-   overlap. Memory is exactly 65,536 bytes, the character ROM 1,024, a frame 8 * lines * R with R = (columns * width + 7) / 8, the
-   registers 25 bytes, words low byte first:
-
-     0 cursor X        9 text area                                        17 cursor height, 1 to 8
-     1 cursor Y       10 graphic area                                     18 auto: 0 off, 1 write, 2 read
-     2 offset         11 combination: 0 OR, 1 EXOR, 2 AND, 3 attribute    19 pending data: how many, 0 to 2
-     3 pointer, 2     12 external characters: 0 or 1                      20 the older of two, else 0
-     5 text home, 2   13 graphic, 14 text, 15 cursor, 16 blink: 0 or 1    21 the newest, or 0
-     7 graphic home, 2                                                    22 latch, 23 error: 0 or 1, 24 phase: 1 normal, 0 off
-
-   Numbers: 0 done; 1 panel or registers not valid, or a byte above that stands for nothing; 2 a buffer of another length; of a pair:
-   3 kind above 4, 4 undefined code, 5 command in auto mode, 6 too few data, 7 data access against the auto mode; of a log: 8 odd
-   length, 13 no room for an answer. 1 comes before 2, but for registers that are not 25 bytes: where the panel is valid they give 2.
-   On 1 and 2 no buffer is written. */
+   Every call answers every input, and keeps nothing between calls: all state is in the buffers lent. A buffer is a pointer, not null, and
+   the number of its elements; no two buffers of a call may overlap. */
 #ifndef BINTARUMPE_H
 #define BINTARUMPE_H
 
-/* The reset state into the registers: 0, or 2 where they are not 25 bytes. */
+/* The panel: columns (C), lines of text (L) and cell width (w); it shows 8 * lines rows of columns * width dots. */
+#define T6963C_COLUMNS_MAX 80 /* 1 to 80 */
+#define T6963C_LINES_MAX 16   /* 1 to 16 */
+#define T6963C_WIDTH_6 6      /* a width is 6 or 8 */
+#define T6963C_WIDTH_8 8
+
+/* The buffers' sizes, in elements. */
+#define T6963C_MEMORY_SIZE 65536    /* display memory, exactly */
+#define T6963C_ROM_SIZE 1024        /* character ROM, exactly: row v (0 the top one) of code k (0 to 127) is byte 8 * k + v, and of it the
+                                       low `width` bits show, the highest of them leftmost */
+#define T6963C_REGISTERS_SIZE 25    /* registers, exactly */
+#define T6963C_COUNTS_SIZE 3        /* a run's counts, exactly */
+#define T6963C_FRAME_SIZE_MAX 10240 /* the largest frame */
+/* A row of the frame, and the frame, in bytes: the leftmost dot is in the top bit, spare bits at a row's end are 0. */
+#define T6963C_ROW_SIZE(columns, width) (((columns) * (width) + 7) / 8)
+#define T6963C_FRAME_SIZE(columns, lines, width) (8 * (lines) * T6963C_ROW_SIZE(columns, width))
+
+/* The kinds of a pair. The byte counts in the first two. */
+#define T6963C_DATA_WRITE 0
+#define T6963C_COMMAND 1
+#define T6963C_DATA_READ 2
+#define T6963C_STATUS_READ 3
+#define T6963C_TICK 4 /* flips the blink phase */
+
+/* The numbers returned. 1 comes before 2, but for registers that are not 25 bytes: where the panel is valid they give 2. On 1 and 2 no
+   buffer is written. */
+#define T6963C_DONE 0
+#define T6963C_NOT_VALID 1       /* panel or registers, or a byte of the registers that stands for nothing */
+#define T6963C_LENGTH 2          /* a buffer of another length than it must have */
+#define T6963C_KIND 3            /* of a pair: a kind above 4 */
+#define T6963C_CODE 4            /* an undefined command code */
+#define T6963C_IN_AUTO 5         /* in auto mode, a command other than B2H */
+#define T6963C_FEW_DATA 6        /* too few data pending */
+#define T6963C_AGAINST_AUTO 7    /* data written in auto read, or read in auto write */
+#define T6963C_ODD_LOG 8         /* of a log: an odd number of bytes */
+#define T6963C_NO_ANSWER_ROOM 13 /* a read whose answer has no room */
+
+/* Where the registers stand among their 25 bytes, and their ranges. Words have their low byte first. */
+#define T6963C_CURSOR_X 0        /* 0 to 127 */
+#define T6963C_CURSOR_Y 1        /* 0 to 31 */
+#define T6963C_OFFSET 2          /* 0 to 31 */
+#define T6963C_POINTER 3         /* 2 bytes */
+#define T6963C_TEXT_HOME 5       /* 2 bytes */
+#define T6963C_GRAPHIC_HOME 7    /* 2 bytes */
+#define T6963C_TEXT_AREA 9       /* 0 to 255 */
+#define T6963C_GRAPHIC_AREA 10   /* 0 to 255 */
+#define T6963C_COMBINATION 11    /* 0 OR, 1 EXOR, 2 AND, 3 attribute */
+#define T6963C_EXTERNAL 12       /* 0 or 1 */
+#define T6963C_GRAPHIC_ON 13     /* 0 or 1, as the next three */
+#define T6963C_TEXT_ON 14
+#define T6963C_CURSOR_ON 15
+#define T6963C_BLINK_ON 16
+#define T6963C_CURSOR_HEIGHT 17  /* 1 to 8 */
+#define T6963C_AUTO 18           /* 0 off, 1 write, 2 read */
+#define T6963C_PENDING 19        /* how many data are pending, 0 to 2 */
+#define T6963C_OLDER 20          /* the older of two, else 0 */
+#define T6963C_NEWEST 21         /* the newest, or 0 */
+#define T6963C_LATCH 22          /* 0 to 255 */
+#define T6963C_ERROR 23          /* 0 or 1 */
+#define T6963C_PHASE 24          /* 1 normal, 0 off */
+
+/* Where a run's counts stand. */
+#define T6963C_PLACE 0   /* the pair refused, the first being 0; on 8 the whole pairs; else 0 */
+#define T6963C_TAKEN 1   /* pairs taken */
+#define T6963C_ANSWERS 2 /* answers written */
+
+#ifdef __cplusplus
+extern "C" {
+#endif
+
+/* The reset state into the registers: 0, or 2 where they are not 25 bytes. Memory has none of it: a reset leaves it as it was. */
 unsigned char t6963c_reset(unsigned char *registers, unsigned long registers_length);
 
-/* One access, kind 0 data write, 1 command, 2 data read, 3 status read, 4 blink tick: the number in the low byte, the byte read (or 0)
-   in the high one. A refused access changes nothing. */
+/* One access: the number in the low byte, the byte read (or 0) in the high one. A refused access changes nothing. */
 unsigned short t6963c_access(unsigned long columns, unsigned long lines, unsigned long width,
                              unsigned char *registers, unsigned long registers_length,
                              unsigned char *memory, unsigned long memory_length,
                              const unsigned char *rom, unsigned long rom_length,
                              unsigned char kind, unsigned char byte);
 
-/* At most limit pairs (kind, byte) of a log: the number. The three counts become the place (the pair refused, on 8 the whole pairs,
-   else 0), the pairs taken, the answers written; a refused pair ends the run and leaves what the pairs before it did. */
+/* At most `limit` pairs (kind, byte) of a log, whose length is in bytes: the number. The counts are then filled in; a refused pair ends
+   the run and leaves what the pairs before it did. Every answer takes one byte of `answers`, so half the log's length is always enough.
+   A long log may be run in parts: go on with the rest of it, and the answers' rest, with the same registers and memory. */
 unsigned char t6963c_run(unsigned long columns, unsigned long lines, unsigned long width,
                          unsigned char *registers, unsigned long registers_length,
                          unsigned char *memory, unsigned long memory_length,
@@ -40,11 +98,15 @@ unsigned char t6963c_run(unsigned long columns, unsigned long lines, unsigned lo
                          unsigned char *answers, unsigned long answers_length,
                          unsigned long *counts, unsigned long counts_length);
 
-/* The frame, row after row, the leftmost dot in the top bit: the number. A refusal leaves it. */
+/* The frame, row after row: the number. A refusal leaves it as it was. */
 unsigned char t6963c_paint(unsigned long columns, unsigned long lines, unsigned long width,
                            const unsigned char *registers, unsigned long registers_length,
                            const unsigned char *memory, unsigned long memory_length,
                            const unsigned char *rom, unsigned long rom_length,
                            unsigned char *frame, unsigned long frame_length);
+
+#ifdef __cplusplus
+}
+#endif
 
 #endif

@@ -1,0 +1,80 @@
+/* The header's names and numbers, tried on the proved controller: status 0 where each stands for what it says, else the number of the
+   line that does not hold. */
+#include "bintarumpe.h"
+
+static unsigned char memory[T6963C_MEMORY_SIZE];
+static unsigned char rom[T6963C_ROM_SIZE];
+static unsigned char r[T6963C_REGISTERS_SIZE];
+static unsigned char frame[T6963C_FRAME_SIZE_MAX];
+
+#define HOLDS(condition) do { if (!(condition)) return __LINE__; } while (0)
+
+static unsigned access(unsigned kind, unsigned byte)
+{
+    return t6963c_access(2, 1, T6963C_WIDTH_6, r, sizeof r, memory, sizeof memory, rom, sizeof rom,
+                         (unsigned char)kind, (unsigned char)byte);
+}
+
+static unsigned command(unsigned code, unsigned d1, unsigned d2)
+{
+    access(T6963C_DATA_WRITE, d1);
+    access(T6963C_DATA_WRITE, d2);
+    return access(T6963C_COMMAND, code);
+}
+
+static int tried(void)
+{
+    static const unsigned char odd[3] = {0, 0, 0}, reads[6] = {3, 0, 3, 0, 3, 0};
+    unsigned long counts[T6963C_COUNTS_SIZE];
+    unsigned char answers[2];
+    HOLDS(t6963c_reset(r, sizeof r) == T6963C_DONE);
+    HOLDS(t6963c_reset(r, sizeof r - 1) == T6963C_LENGTH);
+    HOLDS(r[T6963C_CURSOR_HEIGHT] == 1 && r[T6963C_PHASE] == 1 && r[T6963C_AUTO] == 0);
+    HOLDS(command(0x21, 5, 6) == T6963C_DONE && r[T6963C_CURSOR_X] == 5 && r[T6963C_CURSOR_Y] == 6);
+    HOLDS(command(0x22, 7, 0) == T6963C_DONE && r[T6963C_OFFSET] == 7);
+    HOLDS(command(0x24, 0x12, 0x34) == T6963C_DONE && r[T6963C_POINTER] == 0x12 && r[T6963C_POINTER + 1] == 0x34);
+    HOLDS(command(0x40, 0x56, 0x78) == T6963C_DONE && r[T6963C_TEXT_HOME] == 0x56 && r[T6963C_TEXT_HOME + 1] == 0x78);
+    HOLDS(command(0x42, 0x9A, 0xBC) == T6963C_DONE && r[T6963C_GRAPHIC_HOME] == 0x9A && r[T6963C_GRAPHIC_HOME + 1] == 0xBC);
+    HOLDS(command(0x41, 8, 0) == T6963C_DONE && r[T6963C_TEXT_AREA] == 8);
+    HOLDS(command(0x43, 9, 0) == T6963C_DONE && r[T6963C_GRAPHIC_AREA] == 9);
+    HOLDS(command(0x8B, 0, 0) == T6963C_DONE && r[T6963C_COMBINATION] == 2 && r[T6963C_EXTERNAL] == 1);
+    HOLDS(command(0x84, 0, 0) == T6963C_DONE && r[T6963C_COMBINATION] == 3 && r[T6963C_EXTERNAL] == 0);
+    HOLDS(command(0x98, 0, 0) == T6963C_DONE && r[T6963C_GRAPHIC_ON] == 1 && r[T6963C_TEXT_ON] == 0 && r[T6963C_CURSOR_ON] == 0);
+    HOLDS(command(0x94, 0, 0) == T6963C_DONE && r[T6963C_GRAPHIC_ON] == 0 && r[T6963C_TEXT_ON] == 1 && r[T6963C_BLINK_ON] == 0);
+    HOLDS(command(0x92, 0, 0) == T6963C_DONE && r[T6963C_CURSOR_ON] == 1 && r[T6963C_TEXT_ON] == 0 && r[T6963C_BLINK_ON] == 0);
+    HOLDS(command(0x91, 0, 0) == T6963C_DONE && r[T6963C_CURSOR_ON] == 0 && r[T6963C_BLINK_ON] == 1);
+    HOLDS(command(0xA4, 0, 0) == T6963C_DONE && r[T6963C_CURSOR_HEIGHT] == 5);
+    memory[0x3412] = 0x5A;
+    HOLDS(command(0xC5, 0, 0) == T6963C_DONE && r[T6963C_LATCH] == 0x5A && access(T6963C_DATA_READ, 0) == 0x5A00);
+    HOLDS(command(0xE0, 0, 0) == T6963C_DONE && r[T6963C_ERROR] == 1);
+    HOLDS(access(T6963C_DATA_WRITE, 1) == T6963C_DONE && r[T6963C_PENDING] == 1 && r[T6963C_NEWEST] == 1 && r[T6963C_OLDER] == 0);
+    HOLDS(access(T6963C_DATA_WRITE, 2) == T6963C_DONE && r[T6963C_PENDING] == 2 && r[T6963C_NEWEST] == 2 && r[T6963C_OLDER] == 1);
+    HOLDS(access(T6963C_TICK, 0) == T6963C_DONE && r[T6963C_PHASE] == 0);
+    HOLDS(access(T6963C_STATUS_READ, 0) == 0x6300);
+    HOLDS(access(5, 0) == T6963C_KIND && access(T6963C_COMMAND, 0x82) == T6963C_CODE);
+    HOLDS(access(T6963C_COMMAND, 0xB0) == T6963C_DONE && r[T6963C_AUTO] == 1);
+    HOLDS(access(T6963C_COMMAND, 0x94) == T6963C_IN_AUTO && access(T6963C_DATA_READ, 0) == T6963C_AGAINST_AUTO);
+    HOLDS(access(T6963C_COMMAND, 0xB2) == T6963C_DONE && access(T6963C_COMMAND, 0xB1) == T6963C_DONE && r[T6963C_AUTO] == 2);
+    HOLDS(access(T6963C_COMMAND, 0xB2) == T6963C_DONE && access(T6963C_COMMAND, 0x24) == T6963C_FEW_DATA);
+    HOLDS(t6963c_run(2, 1, 6, r, sizeof r, memory, sizeof memory, rom, sizeof rom, odd, sizeof odd, 9, answers, 2, counts,
+                     T6963C_COUNTS_SIZE) == T6963C_ODD_LOG && counts[T6963C_PLACE] == 1);
+    HOLDS(t6963c_run(2, 1, 6, r, sizeof r, memory, sizeof memory, rom, sizeof rom, reads, sizeof reads, 9, answers, 2, counts,
+                     T6963C_COUNTS_SIZE) == T6963C_NO_ANSWER_ROOM);
+    HOLDS(counts[T6963C_PLACE] == 2 && counts[T6963C_TAKEN] == 2 && counts[T6963C_ANSWERS] == 2 && answers[1] == 0x63);
+    HOLDS(T6963C_FRAME_SIZE(2, 1, 6) == 16 && T6963C_FRAME_SIZE(T6963C_COLUMNS_MAX, T6963C_LINES_MAX, 8) == T6963C_FRAME_SIZE_MAX);
+    /* row 2 of code 65 at its place in the ROM, the low six bits, the highest of them leftmost */
+    t6963c_reset(r, sizeof r);
+    rom[8 * 65 + 2] = 0xE1;
+    memory[0] = 65;
+    command(0x94, 0, 0);
+    HOLDS(t6963c_paint(2, 1, 6, r, sizeof r, memory, sizeof memory, rom, sizeof rom, frame, 16) == T6963C_DONE);
+    HOLDS(frame[2 * T6963C_ROW_SIZE(2, 6)] == 0x84 && frame[2 * T6963C_ROW_SIZE(2, 6) + 1] == 0);
+    HOLDS(t6963c_paint(2, 1, 6, r, sizeof r, memory, sizeof memory, rom, sizeof rom, frame, 15) == T6963C_LENGTH);
+    HOLDS(t6963c_paint(81, 1, 6, r, sizeof r, memory, sizeof memory, rom, sizeof rom, frame, 15) == T6963C_NOT_VALID);
+    return 0;
+}
+
+int main(void)
+{
+    return tried();
+}
