@@ -118,6 +118,7 @@ read_words() {
         *) operand "$word" ;;
         esac
     done
+    [ "$opt_output" != - ] || opt_output=
     [ -z "$opt_sample" ] || [ -z "$named" ] || misused "--sample and a file are one too many"
 }
 

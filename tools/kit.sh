@@ -19,6 +19,16 @@ misused() {
     exit 2
 }
 
+# explained WORD..: --help prints the lines that a script begins with
+explained() {
+    case ${1-} in
+    --help | -h)
+        sed -n -e 1d -e '/^[^#]/q' -e 's/^# \{0,1\}//p' "$0" || exit 2
+        exit 0
+        ;;
+    esac
+}
+
 # stop STATUS: on a signal, with what was started
 stop() {
     [ -z "$child" ] || kill -s TERM -- "-$child" 2>/dev/null || kill "$child" 2>/dev/null

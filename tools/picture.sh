@@ -47,8 +47,13 @@ show_picture() {
     elif [ -n "$opt_blocks" ]; then
         half_blocks <"$work/rows" >"$work/picture"
     elif [ -z "$opt_dots$opt_output" ] && [ -t 1 ] && block_terminal; then
-        across=$(stty size <&1 2>/dev/null | sed 's/.* //')
-        if [ "${across:-0}" = 0 ] || [ "$width" -le "$across" ]; then half_blocks; else quarter_blocks; fi <"$work/rows" >"$work/picture"
+        exec 5>&1
+        across=$(stty size <&5 2>/dev/null | sed 's/.* //')
+        exec 5>&-
+        : "${across:=0}"
+        [ "$across" = 0 ] || [ "$width" -le $((2 * across)) ] ||
+            say "the picture is $width dots wide, too wide for this terminal: --pbm -o FILE makes a file of it"
+        if [ "$across" = 0 ] || [ "$width" -le "$across" ]; then half_blocks; else quarter_blocks; fi <"$work/rows" >"$work/picture"
     else
         cp "$work/rows" "$work/picture"
     fi || fail "the temporary folder '$work' can't be written"

@@ -10,7 +10,7 @@ refuse_panel() {
 refuse_log() {
     case $1 in
     1) refuse_panel ;;
-    8) echo "refused: 8, the log has an odd number of bytes: $2 pairs and one byte more (byte $((3 + 2 * $2)))" ;;
+    8) echo "refused: 8, the log has an odd number of bytes: whole pairs: $2, then a byte alone (byte $((3 + 2 * $2)))" ;;
     *)
         tail -c +4 "$work/in" | head -c $((2 * $2 + 2)) | od -An -v -tu1 | awk -v number="$1" -v place="$2" '
             function pair(at) {
