@@ -136,8 +136,9 @@ version() {
         echo "$name of Bintarumpe; its program is $(state "$program") here"
     else
         build "$program"
-        noted=$(sed -n 1p "$root/target/kit/$program" 2>/dev/null)
-        echo "$name of Bintarumpe, proved with ${noted:-a kit that was not noted}"
+        kit=
+        ! noted "$program" || kit=$(sed -n 1p "$root/target/kit/$program")
+        echo "$name of Bintarumpe, proved with ${kit:-a kit that was not noted}"
     fi
 }
 

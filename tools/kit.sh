@@ -91,11 +91,16 @@ state() {
     if [ -n "$(find "$@" -newer "$built" -print 2>/dev/null | head -n 1)" ]; then echo "older than its crates"; else echo current; fi
 }
 
+# noted PROGRAM: target/kit has the kit that made it, and it was not made again since
+noted() {
+    [ -f "$root/target/kit/$1" ] && [ -z "$(find "$root/target/bin/$1" -newer "$root/target/kit/$1" -print)" ]
+}
+
 # build PROGRAM: proved and built where it is not current, and the kit noted that did it
 build() {
     state=$(state "$1")
     if command -v rt >/dev/null 2>&1; then
-        [ "$state" != current ] || [ ! -f "$root/target/kit/$1" ] || return 0
+        [ "$state" != current ] || ! noted "$1" || return 0
     else
         [ "$state" != current ] || return 0
         fail "the $1 program is $state, and 'rt', the Rattle kit's command, is not on PATH to build it"
@@ -123,7 +128,7 @@ build() {
     fi
     echo "$name, process $$, since $(date '+%Y-%m-%d %H:%M:%S')" >"$lock" || fail "'$root/target' can't be written"
     state=$(state "$1")
-    if [ "$state" != current ] || [ ! -f "$root/target/kit/$1" ]; then prove "$1"; fi
+    if [ "$state" != current ] || ! noted "$1"; then prove "$1"; fi
     true >"$lock"
     exec 9>&-
 }
@@ -145,8 +150,8 @@ prove() {
     rm -f "$talk"
     [ "$proved" = 0 ] || fail "the $1 program was not proved and built; target/log/$1.build has all that was said"
     find_kit
-    noted=$root/target/kit/$1
-    { rt version && echo "$tools"; } >"$noted.new" && mv -f "$noted.new" "$noted" && touch -r "$began" "$root/target/bin/$1" && rm -f "$began" ||
+    note=$root/target/kit/$1
+    { rt version && echo "$tools"; } >"$note.new" && mv -f "$note.new" "$note" && touch -r "$began" "$root/target/bin/$1" && rm -f "$began" ||
         fail "'$root/target' can't be written"
 }
 
