@@ -89,7 +89,12 @@ read_words() {
                 shift
             done
             ;;
-        -o) [ $# -gt 0 ] || misused "-o is to be followed by a file" ; opt_output=$1 && shift ;;
+        -o)
+            [ $# -gt 0 ] || misused "-o is to be followed by a file"
+            opt_output=$1
+            shift
+            [ -n "$opt_output" ] || misused "-o is to be followed by a file"
+            ;;
         -o?*) opt_output=${word#-o} ;;
         -h) opt_help=yes ;;
         --?*)
@@ -150,7 +155,7 @@ take_input() {
     fi
     if [ -n "$opt_sample" ]; then
         from=$sample
-        take <"$root/$sample"
+        take <"$root/$sample" || fail "the sample can't be read"
     elif [ -z "$named" ] || [ "$file" = - ]; then
         from="standard input"
         ! listed input "$closed" || fail "standard input is closed"
@@ -193,7 +198,7 @@ bytes() {
 run_program() {
     run "$program" "$@" >"$work/gave" 2>"$work/said" 3>"$work/report"
     ended=$?
-    number=$(cat "$work/report")
+    number=$(cat "$work/report" 2>/dev/null)
     case $number in
     '' | *[!0-9]*)
         case $ended in
