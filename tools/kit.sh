@@ -136,7 +136,7 @@ build() {
 # prove PROGRAM: by the kit, with a line for each crate and what the prover says in target/log. rt leaves a program alone that has not
 # changed, so its time is set here, to when this began.
 prove() {
-    [ "$state" = current ] || say "proving and building the $1 program, which is $state; the first time this takes some minutes"
+    [ "$state" = current ] || say "proving and building the $1 program, which is $state: $(($(below "$1" | wc -l))) crates, the first time some minutes"
     began=$root/target/kit/$1.began
     talk=$work/talk
     { true >"$began" && mkfifo "$talk"; } 2>/dev/null || fail "'$root/target' or '$work' can't be written"
