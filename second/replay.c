@@ -1,54 +1,64 @@
-/* replay: ROM, C, L, w and a log of any length in; the answers, the run's line and the frame out. */
+/* The replay program: a character ROM and a log of any length in; answers, the run's line and the frame out. */
 #include <stdio.h>
 #include <stdlib.h>
 
 #include "dots.h"
 #include "second.h"
 
-#define HEAD (SECOND_ROM_LENGTH + 3)
+#define PANEL_BYTES 3UL
 #define FRAME_ROOM 10240 /* 8 * 16 * 80, the largest frame */
+
+/* All of standard input behind what was read, with its length; NULL where it can't be read or held. */
+static unsigned char *rest(unsigned long *length)
+{
+    unsigned long room = 65536;
+    unsigned char *bytes = malloc(room);
+
+    *length = 0;
+    while (bytes != NULL) {
+        *length += (unsigned long)fread(bytes + *length, 1, room - *length, stdin);
+        if (*length < room) return ferror(stdin) ? NULL : bytes;
+        room *= 2;
+        bytes = realloc(bytes, room);
+    }
+    return NULL;
+}
 
 int main(void)
 {
     static unsigned char memory[SECOND_MEMORY_LENGTH];
+    static unsigned char rom[SECOND_ROM_LENGTH];
     static unsigned char frame[FRAME_ROOM];
     struct second_panel panel;
     struct second_registers registers;
     struct second_run_reply reply;
-    unsigned long room = 1UL << 16, length = 0, answer;
-    unsigned char *input = malloc(room), *answers;
-    size_t more;
+    unsigned char *input, *answers;
+    unsigned long length, log_length, answer;
 
-    while (input != NULL && (more = fread(input + length, 1, room - length, stdin)) > 0) {
-        length += (unsigned long)more;
-        if (length == room) {
-            room *= 2;
-            input = realloc(input, room);
-        }
-    }
-    answers = malloc(length + 1);
-    if (input == NULL || answers == NULL || ferror(stdin) || length < SECOND_ROM_LENGTH) {
-        fputs("replay: too little memory, or standard input cannot be read or is too short\n", stderr);
+    if (fread(rom, 1, sizeof rom, stdin) != sizeof rom || (input = rest(&length)) == NULL) {
+        fputs("replay: standard input cannot be read\n", stderr);
         return 1;
     }
-    /* there is room behind the ROM; a missing byte counts as 0 */
-    while (length < HEAD) input[length++] = 0;
-    panel.columns = input[SECOND_ROM_LENGTH];
-    panel.lines = input[SECOND_ROM_LENGTH + 1];
-    panel.width = input[SECOND_ROM_LENGTH + 2];
+    log_length = length > PANEL_BYTES ? length - PANEL_BYTES : 0;
+    answers = malloc(log_length / 2 + 1);
+    if (answers == NULL) {
+        fputs("replay: no memory for the answers\n", stderr);
+        return 1;
+    }
+    panel.columns = length > 0 ? input[0] : 0;
+    panel.lines = length > 1 ? input[1] : 0;
+    panel.width = length > 2 ? input[2] : 0;
     second_reset(&registers);
 
-    reply = second_run(&panel, &registers, memory, SECOND_MEMORY_LENGTH, input, SECOND_ROM_LENGTH,
-                       input + HEAD, length - HEAD, length, answers, length);
+    reply = second_run(&panel, &registers, memory, SECOND_MEMORY_LENGTH, rom, SECOND_ROM_LENGTH,
+                       input + PANEL_BYTES, log_length, log_length / 2, answers, log_length / 2);
     for (answer = 0; answer < reply.answers; answer++) printf("%02X\n", answers[answer]);
     printf("pairs %lu answers %lu refusal %u place %lu\n", reply.taken, reply.answers, reply.number, reply.place);
     if (reply.number != 1 && reply.number != 8) {
-        second_frame(&panel, &registers, memory, SECOND_MEMORY_LENGTH, input, SECOND_ROM_LENGTH,
+        second_frame(&panel, &registers, memory, SECOND_MEMORY_LENGTH, rom, SECOND_ROM_LENGTH,
                      frame, second_frame_length(&panel));
         print_dots(&panel, frame);
     }
-    free(answers);
-    free(input);
     if (fflush(stdout) != 0 || ferror(stdout)) {
         fputs("replay: standard output cannot be written\n", stderr);
         return 1;
