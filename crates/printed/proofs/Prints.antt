@@ -27,10 +27,10 @@ use Rattle.controller.proofs.Laws.{Sounds, sounds, sounds-valid}
 use Rattle.controller.proofs.Goings.{Kept}
 use Rattle.controller.proofs.Splitting.{running-kept}
 use Rattle.printed.specs.declared.told.Told.{Told}
-use Rattle.printed.specs.Put.{Put}
+use Rattle.printed.specs.Put.{TextPut}
 use Rattle.printed.specs.Printed.{panelIn, logIn, characterRow, characters, ranIn, textOf, logText, ranLine, frameLine, frameLines, Reported, reported, printOf}
 use Rattle.printed.specs.Text.{hexLineAt, hexLines}
-use Rattle.printed.specs.Ready.{Draws, Ready}
+use Rattle.printed.specs.Ready.{FrameReady, TextReady}
 use Rattle.printed.proofs.Puts.{put-same, put-both, dot-line-length}
 use Rattle.printed.proofs.Texts.{printed-none, printed-all, printed-within, reported-settled}
 
@@ -82,7 +82,7 @@ module _ (p : Panel) (q : Panelled p) where
   lines-few = mul-le-mul {n₂ = 128} {m₂ = 641} (omega (arith, q .lines)) (omega (arith, dots-few))
 
 -- past the doors a painting is the frame
-pub drawn : {p : Panel} {r : Registers} {mem rom frame out : List ℕ} {at : ℕ} → Draws p r mem rom frame out at
+pub drawn : {p : Panel} {r : Registers} {mem rom frame out : List ℕ} {at : ℕ} → FrameReady p r mem rom frame out at
     → {x : Painted} → x ≡ paintOf p r mem rom frame → x .frame ≡ frameOf p (r .display) mem rom
 unfolding paintOf
 drawn {p} {r} {mem} {rom} {frame} d h =
@@ -114,14 +114,14 @@ module _ (p : Panel) (r : Registers) (mem rom log : List ℕ) (limit : ℕ) (ans
 
 -- a run's text, with and without answers and frame
 module _ (p : Panel) (rom : List ℕ) (e : RanAll) {a b : List ℕ} {w : ℕ} where
-  pub text-short : (eqb (e .ran .number) 1 || eqb (e .ran .number) 8) ≡ true → Put a 0 (ranLine (e .ran)) b w → Put a 0 (textOf p rom e) b w
+  pub text-short : (eqb (e .ran .number) 1 || eqb (e .ran .number) 8) ≡ true → TextPut a 0 (ranLine (e .ran)) b w → TextPut a 0 (textOf p rom e) b w
   unfolding textOf
   text-short h x =
       put-same (λ k. cond (sym h k) (ranLine (e .ran)) (ranLine (e .ran) ++ hexLines (e .ran .answers) (e .answers) ++ frameLines p (frameOf p (e .ran .registers .display) (e .memory) rom))) x
 
   pub text-long : (eqb (e .ran .number) 1 || eqb (e .ran .number) 8) ≡ false
-      → {c d : List ℕ} {j k : ℕ} → Put a 0 (ranLine (e .ran)) c j → Put c j (hexLines (e .ran .answers) (e .answers)) d k
-      → Put d k (frameLines p (frameOf p (e .ran .registers .display) (e .memory) rom)) b w → Put a 0 (textOf p rom e) b w
+      → {c d : List ℕ} {j k : ℕ} → TextPut a 0 (ranLine (e .ran)) c j → TextPut c j (hexLines (e .ran .answers) (e .answers)) d k
+      → TextPut d k (frameLines p (frameOf p (e .ran .registers .display) (e .memory) rom)) b w → TextPut a 0 (textOf p rom e) b w
   unfolding textOf
   text-long h x y z =
       put-same (λ k. cond (sym h k) (ranLine (e .ran)) (ranLine (e .ran) ++ hexLines (e .ran .answers) (e .answers) ++ frameLines p (frameOf p (e .ran .registers .display) (e .memory) rom)))
@@ -173,7 +173,7 @@ pub record Rooms (mem rom answers frame out : List ℕ) : Type 0 where
 
 -- the run's text may be written
 pub ready : (input : List ℕ) {p : Panel} {a : Ran} {mem rom answers frame out : List ℕ} → p ≡ panelIn input → ranAll a mem answers ≡ ranIn input
-    → Rooms mem rom answers frame out → Ready p a mem rom answers frame out
+    → Rooms mem rom answers frame out → TextReady p a mem rom answers frame out
 ready input {p} {a} {mem} {rom} {answers} i e l =
     let came : Came p (ranAll a mem answers) = subst (λ (q : Panel). Came q (ranAll a mem answers)) (sym i) (subst (λ (o : RanAll). Came (panelIn input) o) (sym e) (ran-came input)) in
     record {
@@ -193,7 +193,7 @@ module _ (input out : List ℕ) where
       λ k. record { text = printed-none (eqb (length out) 131072) (logText input) out e k; number = cond (sym e k) (ranIn input .ran .number) 2 }
 
   pub print-all : length out ≡ 131072 → {p : Panel} {c : List ℕ} {e : RanAll} → p ≡ panelIn input → c ≡ characters → e ≡ ranIn input
-      → {b : List ℕ} {w : ℕ} → Put out 0 (textOf p c e) b w → w ≤ 131072 → reported (record { count = w; number = e .ran .number }) b ≡ printOf input out
+      → {b : List ℕ} {w : ℕ} → TextPut out 0 (textOf p c e) b w → w ≤ 131072 → reported (record { count = w; number = e .ran .number }) b ≡ printOf input out
   unfolding printOf logText
   print-all h i j l x s =
       let r = eq-eqb (length out) 131072 h in
@@ -211,7 +211,7 @@ pub not-first : (a b : Bool) → (a || b) ≡ false → a ≡ false
 not-first true b e = e
 not-first false b e = refl
 
-module _ (p : Panel) (a : Ran) {mem rom answers frame out : List ℕ} (k : Ready p a mem rom answers frame out) (h : (eqb (a .number) 1 || eqb (a .number) 8) ≡ false) where
+module _ (p : Panel) (a : Ran) {mem rom answers frame out : List ℕ} (k : TextReady p a mem rom answers frame out) (h : (eqb (a .number) 1 || eqb (a .number) 8) ≡ false) where
   pub ready-valid : (validPanel p && validRegisters (a .registers)) ≡ true
   ready-valid = k .valid (not-first (eqb (a .number) 1) (eqb (a .number) 8) h)
 

@@ -8,35 +8,35 @@ use native.Mathlib.Omega.{arith}
 use lib.ListN.{length, getD, take, drop, set, length-append}
 use lib.Seq.{sets, length-sets, sets-eq, take-suc}
 use Rattle.ground.proofs.Lists.{build-length}
-use Rattle.printed.specs.Put.{Put}
+use Rattle.printed.specs.Put.{TextPut}
 use Rattle.printed.specs.Text.{dotLine}
 
 sets-append : (xs ys l : List ℕ) (i : ℕ) → sets (sets l i xs) (i + length xs) ys ≡ sets l i (xs ++ ys)
 sets-append [] ys l i = rw add-zero
 sets-append (x ∷ xs) ys l i = rw (add-suc, ← suc-add) (sets-append xs ys (set l i x) (suc i))
 
-pub put-both : {a b c : List ℕ} {i j e : ℕ} {xs ys : List ℕ} → Put a i xs b j → Put b j ys c e → Put a i (xs ++ ys) c e
+pub put-both : {a b c : List ℕ} {i j e : ℕ} {xs ys : List ℕ} → TextPut a i xs b j → TextPut b j ys c e → TextPut a i (xs ++ ys) c e
 put-both {a} {b} {c} {i} {j} {e} {xs} {ys} x y =
     record {
       holds = y .holds ∙ ap₂ (λ l n. sets l n ys) (x .holds) (x .ends) ∙ sets-append xs ys a i;
       ends = simp length-append (omega (arith, x .ends, y .ends));
     }
 
-pub put-same : {a b : List ℕ} {i e : ℕ} {xs ys : List ℕ} → xs ≡ ys → Put a i xs b e → Put a i ys b e
-put-same {a} {b} {i} {e} h x = subst (λ (text : List ℕ). Put a i text b e) h x
+pub put-same : {a b : List ℕ} {i e : ℕ} {xs ys : List ℕ} → xs ≡ ys → TextPut a i xs b e → TextPut a i ys b e
+put-same {a} {b} {i} {e} h x = subst (λ (text : List ℕ). TextPut a i text b e) h x
 
-pub put-length : {a b : List ℕ} {i e : ℕ} {xs : List ℕ} → Put a i xs b e → length b ≡ length a
+pub put-length : {a b : List ℕ} {i e : ℕ} {xs : List ℕ} → TextPut a i xs b e → length b ≡ length a
 put-length {a} {i = i} {xs} x = ap length (x .holds) ∙ length-sets a i xs
 
 -- a text at the room's start
-pub put-start : {a b : List ℕ} {e : ℕ} {xs : List ℕ} → Put a 0 xs b e → length xs ≤ length a → b ≡ xs ++ drop (length xs) a
+pub put-start : {a b : List ℕ} {e : ℕ} {xs : List ℕ} → TextPut a 0 xs b e → length xs ≤ length a → b ≡ xs ++ drop (length xs) a
 put-start {a} {xs = xs} x h =
     let z : 0 + length xs ≡ length xs = omega arith in
     x .holds ∙ sets-eq xs a 0 (omega arith) ∙ ap (λ (n : ℕ). xs ++ drop n a) z
 
 -- so much of a text of `size` characters as a loop has written
 pub record Putting (a : List ℕ) (at : ℕ) (text : List ℕ) (size : ℕ) (b : List ℕ) (w : ℕ) : Type 0 where
-  pub put : Put a at text b w
+  pub put : TextPut a at text b w
   pub place : w ≡ at + size
   pub kept : length b ≡ length a
 
@@ -44,7 +44,7 @@ pub starts : (a : List ℕ) (at : ℕ) {text : List ℕ} {size : ℕ} → text �
 starts a at {text} {size} h z =
     record { put = put-same (sym h) (record { holds = refl; ends = omega arith }); place = omega arith; kept = refl }
 
-pub goes : {a b c : List ℕ} {at w e size : ℕ} {text piece : List ℕ} → Putting a at text size b w → Put b w piece c e
+pub goes : {a b c : List ℕ} {at w e size : ℕ} {text piece : List ℕ} → Putting a at text size b w → TextPut b w piece c e
     → {next : List ℕ} → next ≡ text ++ piece → {longer : ℕ} → longer ≡ size + length piece → Putting a at next longer c e
 goes x y h l =
     record { put = put-same (sym h) (put-both (x .put) y); place = omega (arith, x .place, y .ends); kept = put-length y ∙ x .kept }

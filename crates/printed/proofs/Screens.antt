@@ -17,7 +17,7 @@ use Rattle.state.specs.Sizes.{frameSize, validSize}
 use Rattle.state.proofs.Sizes.{is-size}
 use Rattle.state.proofs.Valid.{Panelled, panelled}
 use Rattle.controller.specs.Types.{Panel}
-use Rattle.printed.specs.Put.{Put}
+use Rattle.printed.specs.Put.{TextPut}
 use Rattle.printed.specs.Printed.{frameLines, printed, printText}
 use Rattle.printed.specs.Screen.{screenLines, pictureText, rehearsalText, framed, lentScreen, printPictureOf, printRehearsalOf}
 use Rattle.printed.specs.Ready.{Lines}
@@ -48,10 +48,10 @@ module _ (p : Panel) (number : ℕ) (frame : List ℕ) where
           eqb-true (length frame) (8 * p .lines * rowBytes (p .columns) (p .width))
           (both-right (validPanel p) (frameFits p frame) (sym framed-by ∙ h))
 
-    pub rows-put : {a b : List ℕ} {at e : ℕ} → Put a at (frameLines p frame) b e → Put a at (screenLines p number frame) b e
+    pub rows-put : {a b : List ℕ} {at e : ℕ} → TextPut a at (frameLines p frame) b e → TextPut a at (screenLines p number frame) b e
     rows-put x = put-same (sym (ap (λ (t : Bool). cond t (frameLines p frame) []) (eq-eqb number 0 z))) x
 
-  pub rows-none : (number ≡ 0 → ⊥) → (a : List ℕ) (at : ℕ) → Put a at (screenLines p number frame) a at
+  pub rows-none : (number ≡ 0 → ⊥) → (a : List ℕ) (at : ℕ) → TextPut a at (screenLines p number frame) a at
   rows-none nz a at =
       put-same (sym (ap (λ (t : Bool). cond t (frameLines p frame) []) (ne-eqb number 0 nz))) (record { holds = refl; ends = omega arith })
 
@@ -84,10 +84,10 @@ module _ (p : Panel) (number : ℕ) (frame out line : List ℕ) {t : Bool} (i : 
     pub screen-room : length out ≡ 131072
     screen-room = eqb-true (length out) 131072 (both-right t _ h)
 
-    pub screen-ready : {b : List ℕ} {w : ℕ} → Put out 0 line b w → w ≤ 112 → Lines p number frame b w
+    pub screen-ready : {b : List ℕ} {w : ℕ} → TextPut out 0 line b w → w ≤ 112 → Lines p number frame b w
     screen-ready x s = record { framed = sym i ∙ both-left t _ h; behind = s; roomy = put-length x ∙ screen-room }
 
-    pub screen-all : {b c : List ℕ} {w e : ℕ} → Put out 0 line b w → Put b w (screenLines p number frame) c e → e ≤ 131072
+    pub screen-all : {b c : List ℕ} {w e : ℕ} → TextPut out 0 line b w → TextPut b w (screenLines p number frame) c e → e ≤ 131072
         → printed e c ≡ printText (lentScreen p number frame out) (line ++ screenLines p number frame) out
     screen-all x y s =
         printed-all (lentScreen p number frame out) (line ++ screenLines p number frame) out (lent-is true h) (put-both x y)

@@ -7,7 +7,7 @@ use native.Mathlib.Omega.{arith}
 use lib.ListN.{length, drop, length-append}
 use Rattle.ground.proofs.Tests.{cond-has, settled}
 use Rattle.printed.specs.declared.told.Told.{Told}
-use Rattle.printed.specs.Put.{Put}
+use Rattle.printed.specs.Put.{TextPut}
 use Rattle.printed.specs.Printed.{Printed, printed, printText, Reported, reported}
 use Rattle.printed.proofs.Puts.{put-start}
 
@@ -15,7 +15,7 @@ module _ (lent : Bool) (text out : List ℕ) where
   pub printed-none : lent ≡ false → printed 0 out ≡ printText lent text out
   printed-none h = λ k. cond (sym h k) (printed (length text) (text ++ drop (length text) out)) (printed 0 out)
 
-  pub printed-all : lent ≡ true → {b : List ℕ} {w : ℕ} → Put out 0 text b w → w ≤ length out → printed w b ≡ printText lent text out
+  pub printed-all : lent ≡ true → {b : List ℕ} {w : ℕ} → TextPut out 0 text b w → w ≤ length out → printed w b ≡ printText lent text out
   printed-all h {b} {w} x s =
       let n : w ≡ length text = omega (arith, x .ends) in
       (λ k. printed (n k) (put-start x (omega arith) k))

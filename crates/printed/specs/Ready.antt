@@ -13,14 +13,14 @@ use Rattle.controller.specs.declared.run.Ran.{Ran}
 use Rattle.printed.specs.Screen.{framed}
 
 -- a state that can be drawn, a frame of its size, room for its rows at `at`
-pub record Draws (p : Panel) (r : Registers) (mem rom frame out : List ℕ) (at : ℕ) : Type 0 where
+pub record FrameReady (p : Panel) (r : Registers) (mem rom frame out : List ℕ) (at : ℕ) : Type 0 where
   pub valid : (validPanel p && validRegisters r) ≡ true
   pub lent : lentLengths mem rom ≡ true
   pub sized : length frame ≡ 8 * p .lines * rowBytes (p .columns) (p .width)
   pub room : at + 8 * p .lines * (p .columns * p .width + 1) ≤ length out
 
 -- what a run came to, and rooms for its text; refusal 1 alone comes with an invalid panel
-pub record Ready (p : Panel) (a : Ran) (mem rom answers frame out : List ℕ) : Type 0 where
+pub record TextReady (p : Panel) (a : Ran) (mem rom answers frame out : List ℕ) : Type 0 where
   pub valid : eqb (a .number) 1 ≡ false → (validPanel p && validRegisters (a .registers)) ≡ true
   pub lent : lentLengths mem rom ≡ true
   pub given : a .answers ≤ length answers

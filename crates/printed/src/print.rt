@@ -4,9 +4,9 @@ ghost use Prim.Native.Nat.{_≤_};
 ghost use Rattle.ground.specs.Lists.{zeros};
 ghost use Rattle.display.specs.Frame.{frameOf};
 ghost use Rattle.controller.specs.Run.{ranAll};
-ghost use Rattle.printed.specs.Put.{Put};
+ghost use Rattle.printed.specs.Put.{TextPut};
 ghost use Rattle.printed.specs.Printed.{characters, ranIn, frameLines, textOf, reported, printOf};
-ghost use Rattle.printed.specs.Ready.{Draws, Ready};
+ghost use Rattle.printed.specs.Ready.{FrameReady, TextReady};
 use crate::fill::character_rom;
 use crate::fill::empty_memory;
 use crate::fill::no_answers;
@@ -32,8 +32,8 @@ fn put_frame(
     out: &mut [u8],
     at: usize,
 ) -> usize
-    requires { ⌜ Draws panel registers (now memory) (now rom) (now frame) (now out) at ⌝ }
-    ensures { λ r. ⌜ Put (now (out .entry)) at (frameLines panel (frameOf panel (registers .display) (now (memory .entry)) (now (rom .entry)))) (now (out .exit)) r ⌝ }
+    requires { ⌜ FrameReady panel registers (now memory) (now rom) (now frame) (now out) at ⌝ }
+    ensures { λ r. ⌜ TextPut (now (out .entry)) at (frameLines panel (frameOf panel (registers .display) (now (memory .entry)) (now (rom .entry)))) (now (out .exit)) r ⌝ }
 {
     paint(panel, registers, memory, rom, frame);
     put_frame_lines(out, at, panel, frame)
@@ -49,8 +49,8 @@ fn put_ran(
     frame: &mut [u8],
     out: &mut [u8],
 ) -> usize
-    requires { ⌜ Ready panel ran (now memory) (now rom) (now answers) (now frame) (now out) ⌝ }
-    ensures { λ r. ⌜ Put (now (out .entry)) 0 (textOf panel (now (rom .entry)) (ranAll ran (now (memory .entry)) (now (answers .entry)))) (now (out .exit)) r ⌝ }
+    requires { ⌜ TextReady panel ran (now memory) (now rom) (now answers) (now frame) (now out) ⌝ }
+    ensures { λ r. ⌜ TextPut (now (out .entry)) 0 (textOf panel (now (rom .entry)) (ranAll ran (now (memory .entry)) (now (answers .entry)))) (now (out .exit)) r ⌝ }
     ensures { λ r. ⌜ r ≤ 131072 ⌝ }
 {
     let at = put_first_line(out, ran.taken, ran.answers, ran.number, ran.place);

@@ -4,7 +4,7 @@ ghost use mathlib.Core.List.{[], _∷_, _++_};
 ghost use Prim.Native.Nat.{_+_, _*_, _/_, _≤_, _<_};
 ghost use lib.ListN.{length};
 ghost use Rattle.ground.specs.Packing.{rowBytes};
-ghost use Rattle.printed.specs.Put.{Put};
+ghost use Rattle.printed.specs.Put.{TextPut};
 ghost use Rattle.printed.specs.Text.{decimal, hexDigit, hexLine, hexLines, dotMark, dotLine};
 ghost use Rattle.printed.specs.Printed.{refusalLine, firstLine, frameLines};
 use ground::bytes::bit;
@@ -13,7 +13,7 @@ use state::panel::Panel;
 // One character.
 fn put_byte(out: &mut [u8], at: usize, byte: u8) -> usize
     requires { ⌜ at < length (now out) ⌝ }
-    ensures { λ r. ⌜ Put (now (out .entry)) at (byte ∷ []) (now (out .exit)) r ⌝ }
+    ensures { λ r. ⌜ TextPut (now (out .entry)) at (byte ∷ []) (now (out .exit)) r ⌝ }
 {
     out[at] = byte;
     at + 1
@@ -21,7 +21,7 @@ fn put_byte(out: &mut [u8], at: usize, byte: u8) -> usize
 
 fn put_text(out: &mut [u8], at: usize, text: &[u8]) -> usize
     requires { ⌜ at + length (now text) ≤ length (now out) ⌝ }
-    ensures { λ r. ⌜ Put (now (out .entry)) at (now (text .entry)) (now (out .exit)) r ⌝ }
+    ensures { λ r. ⌜ TextPut (now (out .entry)) at (now (text .entry)) (now (out .exit)) r ⌝ }
 {
     let mut w = at;
     let mut i: usize = 0;
@@ -35,7 +35,7 @@ fn put_text(out: &mut [u8], at: usize, text: &[u8]) -> usize
 // A number in decimal: the digits before the last, then the last.
 fn put_decimal(out: &mut [u8], at: usize, n: usize) -> usize
     requires { ⌜ at + length (decimal n) ≤ length (now out) ⌝ }
-    ensures { λ r. ⌜ Put (now (out .entry)) at (decimal n) (now (out .exit)) r ⌝ }
+    ensures { λ r. ⌜ TextPut (now (out .entry)) at (decimal n) (now (out .exit)) r ⌝ }
 {
     let last = 48 + (n % 10) as u8;
     if n < 10 {
@@ -48,7 +48,7 @@ fn put_decimal(out: &mut [u8], at: usize, n: usize) -> usize
 // A word and a number, which has at most 20 digits.
 fn put_field(out: &mut [u8], at: usize, word: &[u8], n: usize) -> usize
     requires { ⌜ at + length (now word) + 20 ≤ length (now out) ⌝ }
-    ensures { λ r. ⌜ Put (now (out .entry)) at (now (word .entry) ++ decimal n) (now (out .exit)) r ⌝ }
+    ensures { λ r. ⌜ TextPut (now (out .entry)) at (now (word .entry) ++ decimal n) (now (out .exit)) r ⌝ }
     ensures { λ r. ⌜ r ≤ at + length (now (word .entry)) + 20 ⌝ }
 {
     let w = put_text(out, at, word);
@@ -58,7 +58,7 @@ fn put_field(out: &mut [u8], at: usize, word: &[u8], n: usize) -> usize
 // Refusal and place, to the line's end; at most 56 characters.
 pub(crate) fn put_refusal(out: &mut [u8], at: usize, number: u8, place: usize) -> usize
     requires { ⌜ at + 56 ≤ length (now out) ⌝ }
-    ensures { λ r. ⌜ Put (now (out .entry)) at (refusalLine number place) (now (out .exit)) r ⌝ }
+    ensures { λ r. ⌜ TextPut (now (out .entry)) at (refusalLine number place) (now (out .exit)) r ⌝ }
     ensures { λ r. ⌜ r ≤ at + 56 ⌝ }
 {
     let a = put_field(out, at, b"refusal ", number as usize);
@@ -75,7 +75,7 @@ pub(crate) fn put_first_line(
     place: usize,
 ) -> usize
     requires { ⌜ 112 ≤ length (now out) ⌝ }
-    ensures { λ r. ⌜ Put (now (out .entry)) 0 (firstLine pairs answers number place) (now (out .exit)) r ⌝ }
+    ensures { λ r. ⌜ TextPut (now (out .entry)) 0 (firstLine pairs answers number place) (now (out .exit)) r ⌝ }
     ensures { λ r. ⌜ r ≤ 112 ⌝ }
 {
     let a = put_field(out, 0, b"pairs ", pairs);
@@ -93,7 +93,7 @@ fn hex_digit(d: u8) -> u8
 
 fn put_hex_line(out: &mut [u8], at: usize, byte: u8) -> usize
     requires { ⌜ at + 3 ≤ length (now out) ⌝ }
-    ensures { λ r. ⌜ Put (now (out .entry)) at (hexLine byte) (now (out .exit)) r ⌝ }
+    ensures { λ r. ⌜ TextPut (now (out .entry)) at (hexLine byte) (now (out .exit)) r ⌝ }
 {
     let a = put_byte(out, at, hex_digit(byte / 16));
     let b = put_byte(out, a, hex_digit(byte % 16));
@@ -103,7 +103,7 @@ fn put_hex_line(out: &mut [u8], at: usize, byte: u8) -> usize
 // The first `given` answers, one to a line.
 pub(crate) fn put_hex_lines(out: &mut [u8], at: usize, given: usize, answers: &[u8]) -> usize
     requires { ⌜ (at + 3 * given ≤ length (now out)) × (given ≤ length (now answers)) ⌝ }
-    ensures { λ r. ⌜ Put (now (out .entry)) at (hexLines given (now (answers .entry))) (now (out .exit)) r ⌝ }
+    ensures { λ r. ⌜ TextPut (now (out .entry)) at (hexLines given (now (answers .entry))) (now (out .exit)) r ⌝ }
 {
     let mut w = at;
     let mut i: usize = 0;
@@ -123,7 +123,7 @@ fn dot_mark(dot: u8) -> u8
 // A row of dots whose bytes begin at `from`.
 fn put_dot_line(out: &mut [u8], at: usize, frame: &[u8], from: usize, dots: usize) -> usize
     requires { ⌜ (at + dots + 1 ≤ length (now out)) × (from + (dots + 7) / 8 ≤ length (now frame)) ⌝ }
-    ensures { λ r. ⌜ Put (now (out .entry)) at (dotLine (now (frame .entry)) from dots) (now (out .exit)) r ⌝ }
+    ensures { λ r. ⌜ TextPut (now (out .entry)) at (dotLine (now (frame .entry)) from dots) (now (out .exit)) r ⌝ }
 {
     let mut w = at;
     let mut x: usize = 0;
@@ -140,7 +140,7 @@ pub(crate) fn put_frame_lines(out: &mut [u8], at: usize, panel: Panel, frame: &[
     requires { ⌜ (panel .lines ≤ 16) × (panel .columns * panel .width ≤ 640) ⌝ }
     requires { ⌜ at + 8 * panel .lines * (panel .columns * panel .width + 1) ≤ length (now out) ⌝ }
     requires { ⌜ length (now frame) ≡ 8 * panel .lines * rowBytes (panel .columns) (panel .width) ⌝ }
-    ensures { λ r. ⌜ Put (now (out .entry)) at (frameLines panel (now (frame .entry))) (now (out .exit)) r ⌝ }
+    ensures { λ r. ⌜ TextPut (now (out .entry)) at (frameLines panel (now (frame .entry))) (now (out .exit)) r ⌝ }
 {
     let dots = panel.columns * panel.width;
     let bytes = (dots + 7) / 8;

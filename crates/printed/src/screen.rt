@@ -1,7 +1,7 @@
 // What the programs over a book print of a screen, as bytes in a lent room.
 ghost use mathlib.Core.Path.{_≡_};
 ghost use Prim.Native.Nat.{_≤_};
-ghost use Rattle.printed.specs.Put.{Put};
+ghost use Rattle.printed.specs.Put.{TextPut};
 ghost use Rattle.printed.specs.Printed.{printed};
 ghost use Rattle.printed.specs.Screen.{framed, screenLines, printPictureOf, printRehearsalOf};
 ghost use Rattle.printed.specs.Ready.{Lines};
@@ -28,7 +28,7 @@ pub(crate) fn is_framed(panel: Panel, number: u8, frame: &[u8]) -> bool
 // The rows of a screen that was not refused, behind its line.
 pub(crate) fn put_screen(panel: Panel, number: u8, frame: &[u8], out: &mut [u8], at: usize) -> usize
     requires { ⌜ Lines panel number (now frame) (now out) at ⌝ }
-    ensures { λ r. ⌜ Put (now (out .entry)) at (screenLines panel number (now (frame .entry))) (now (out .exit)) r ⌝ }
+    ensures { λ r. ⌜ TextPut (now (out .entry)) at (screenLines panel number (now (frame .entry))) (now (out .exit)) r ⌝ }
     ensures { λ r. ⌜ r ≤ 131072 ⌝ }
 {
     if number != 0 {

@@ -3,14 +3,14 @@ use mathlib.Core.Path.{refl}
 use mathlib.Core.List.{List, []}
 use Prim.Native.Nat.{ℕ}
 use native.Mathlib.Omega.{arith}
-use Rattle.printed.specs.Put.{Put}
+use Rattle.printed.specs.Put.{TextPut}
 use Rattle.printed.specs.Parts.{printRowsOf}
 use Rattle.printed.proofs.Screens.{screen-none, screen-ready, screen-all}
 use borrow.Author.Needs.{needs}
 use Rattle.printed.proofs.parts.print_rows.Statement.{statement}
 use Rattle.printed.proofs.parts.print_rows.Tie as tie
 
-no-line : (out : List ℕ) → Put out 0 [] out 0
+no-line : (out : List ℕ) → TextPut out 0 [] out 0
 no-line out = record { holds = refl; ends = refl }
 
 is-framed-requires : tie.Need-is-framed-requires
