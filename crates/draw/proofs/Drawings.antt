@@ -15,6 +15,7 @@ use Rattle.state.specs.declared.reply.Reply.{Reply}
 use Rattle.state.specs.State.{validPanel}
 use Rattle.display.specs.Frame.{frameFits, replyOf}
 use Rattle.book.specs.Screen.{Screen, screen, refused, screenOf}
+use Rattle.book.specs.Numbers.{screenNumber}
 use Rattle.book.proofs.Numbers.{refusal-number}
 use Rattle.picture.specs.Drawn.{Drew, drewAll, planesFit, drawScreen, drawOf}
 use Rattle.printed.specs.declared.told.Told.{Told}
@@ -24,7 +25,7 @@ use Rattle.printed.specs.Printed.{panelIn, refusalLine, printed, printText, Rep
 use Rattle.printed.specs.Screen.{pictureText, framed, printPictureOf}
 use Rattle.printed.proofs.Screens.{line-alone, may-print}
 use Rattle.printed.proofs.Texts.{printed-within, reported-settled}
-use Rattle.draw.specs.Drawing.{phaseIn, screenNumber, drawn, drawText, drawTextOf, Cut}
+use Rattle.draw.specs.Drawing.{phaseIn, drawn, drawText, drawTextOf, Cut}
 
 -- the parts lent are the panel's
 pub cut-fits : (p : Panel) {size bytes : ℕ} {rom g t l f : List ℕ} → size ≡ validSize p (cellCount p) → bytes ≡ validSize p (frameSize p) → length rom ≡ 1024 → length g ≡ 8 * size

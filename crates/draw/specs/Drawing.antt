@@ -9,6 +9,7 @@ use Rattle.state.specs.declared.panel.Panel.{Panel}
 use Rattle.state.specs.State.{validPanel}
 use Rattle.display.specs.Frame.{frameFits}
 use Rattle.book.specs.Screen.{Screen, screen, refused, screenOf}
+use Rattle.book.specs.Numbers.{screenNumber}
 use Rattle.picture.specs.Picture.{pictureOf, pictureFrame}
 use Rattle.picture.specs.Drawn.{planesFit}
 use Rattle.printed.specs.Printed.{panelIn, refusalLine, frameLines, Reported, printText}
@@ -16,11 +17,6 @@ use Rattle.printed.specs.Printed.{panelIn, refusalLine, frameLines, Reported, p
 -- the fifth byte: 0 is off, any other normal
 abbrev pub phaseIn : List ℕ → Bool
 phaseIn input = not (eqb (getD input 4 0) 0)
-
--- a screen's refusal
-abbrev pub screenNumber : Screen → ℕ
-screenNumber (screen os) = 0
-screenNumber (refused n place) = n
 
 -- the refusal line, and with refusal 0 the rows of the screen's picture in that phase
 abbrev pub drawn : Panel → List ℕ → Bool → Screen → List ℕ
