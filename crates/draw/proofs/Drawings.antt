@@ -25,11 +25,11 @@ use Rattle.printed.specs.Printed.{panelIn, refusalLine, printed, printText, Rep
 use Rattle.printed.specs.Screen.{pictureText, framed, printPictureOf}
 use Rattle.printed.proofs.Screens.{line-alone, may-print}
 use Rattle.printed.proofs.Texts.{printed-within, reported-settled}
-use Rattle.draw.specs.Drawing.{phaseIn, drawn, drawText, drawTextOf, Cut}
+use Rattle.draw.specs.Drawing.{phaseIn, drawn, drawText, drawTextOf, PlanesCut}
 
 -- the parts lent are the panel's
 pub cut-fits : (p : Panel) {size bytes : ℕ} {rom g t l f : List ℕ} → size ≡ validSize p (cellCount p) → bytes ≡ validSize p (frameSize p) → length rom ≡ 1024 → length g ≡ 8 * size
-    → length t ≡ size → length l ≡ 1024 → length f ≡ bytes → Cut p rom g t l f
+    → length t ≡ size → length l ≡ 1024 → length f ≡ bytes → PlanesCut p rom g t l f
 cut-fits p {size} {bytes} {rom} {g} {t} {l} {f} i j a b c d e =
     record {
       fits = λ v.
@@ -43,7 +43,7 @@ cut-fits p {size} {bytes} {rom} {g} {t} {l} {f} i j a b c d e =
           (eq-eqb (length f) (8 * p .lines * rowBytes (p .columns) (p .width)) (e ∙ n));
     }
 
-module _ (p : Panel) (book : List ℕ) (number : ℕ) (rom : List ℕ) (normal : Bool) (g t l f : List ℕ) (fits : Cut p rom g t l f) where
+module _ (p : Panel) (book : List ℕ) (number : ℕ) (rom : List ℕ) (normal : Bool) (g t l f : List ℕ) (fits : PlanesCut p rom g t l f) where
   abbrev came : Bool → Screen
   came v = cond v (screenOf p book number) (refused 1 0)
 
@@ -109,7 +109,7 @@ module _ (p : Panel) (book : List ℕ) (number : ℕ) (rom : List ℕ) (normal :
 
 -- the whole text
 pub draw-all : (input out : List ℕ) {p : Panel} {number : ℕ} {normal : Bool} {book rom g t l f : List ℕ} → p ≡ panelIn input → number ≡ getD input 3 0 → normal ≡ phaseIn input
-    → book ≡ drop 5 input → Cut p rom g t l f → {r : Reply} {a b c e : List ℕ} → drewAll r a b c e ≡ drawOf p book number rom normal g t l f
+    → book ≡ drop 5 input → PlanesCut p rom g t l f → {r : Reply} {a b c e : List ℕ} → drewAll r a b c e ≡ drawOf p book number rom normal g t l f
     → length e ≡ length f → {w : ℕ} {o : List ℕ} → printed w o ≡ printPictureOf p (r .number) (r .place) e out
     → reported (record { count = w; number = r .number }) o ≡ drawTextOf rom input out
 unfolding drawTextOf drawText

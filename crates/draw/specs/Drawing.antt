@@ -24,18 +24,18 @@ drawn p rom normal (screen os) = refusalLine 0 0 ++ frameLines p (pictureFrame p
 drawn p rom normal (refused n place) = refusalLine n place
 
 -- C, L, w, number, phase, book: 1 where the panel is not valid, then what the screen comes to
-abbrev pub screenIn : List ℕ → Screen
-screenIn input =
+abbrev pub screenToDraw : List ℕ → Screen
+screenToDraw input =
     cond (validPanel (panelIn input)) (screenOf (panelIn input) (drop 5 input) (getD input 3 0)) (refused 1 0)
 
 unfoldable pub drawText : List ℕ → List ℕ → List ℕ
-drawText rom input = drawn (panelIn input) rom (phaseIn input) (screenIn input)
+drawText rom input = drawn (panelIn input) rom (phaseIn input) (screenToDraw input)
 
 -- lent: 131,072 bytes of text, which suffice; the number is the screen's
 unfoldable pub drawTextOf : List ℕ → List ℕ → List ℕ → Reported
 drawTextOf rom input out =
-    record { text = printText (eqb (length out) 131072) (drawText rom input) out; number = screenNumber (screenIn input) }
+    record { text = printText (eqb (length out) 131072) (drawText rom input) out; number = screenNumber (screenToDraw input) }
 
 -- a valid panel's ROM, planes and frame: what an inner routine rests on
-pub record Cut (p : Panel) (rom graphic codes glyphs frame : List ℕ) : Type 0 where
+pub record PlanesCut (p : Panel) (rom graphic codes glyphs frame : List ℕ) : Type 0 where
   pub fits : validPanel p ≡ true → (planesFit p rom graphic codes glyphs && frameFits p frame) ≡ true

@@ -3,7 +3,7 @@
 ghost use mathlib.Core.Path.{_≡_};
 ghost use lib.ListN.{length};
 ghost use Rattle.printed.specs.Printed.{panelIn, reported};
-ghost use Rattle.draw.specs.Drawing.{drawTextOf, Cut};
+ghost use Rattle.draw.specs.Drawing.{drawTextOf, PlanesCut};
 use libc::STDIN_FILENO;
 use libc::STDOUT_FILENO;
 use picture::draw::draw;
@@ -30,7 +30,7 @@ fn print_screen(
     out: &mut [u8],
 ) -> Told
     requires { ⌜ panel ≡ panelIn (now input) ⌝ }
-    requires { ⌜ Cut panel (now rom) (now graphic) (now codes) (now glyphs) (now frame) ⌝ }
+    requires { ⌜ PlanesCut panel (now rom) (now graphic) (now codes) (now glyphs) (now frame) ⌝ }
     ensures { λ r. ⌜ reported r (now (out .exit)) ≡ drawTextOf (now (rom .entry)) (now (input .entry)) (now (out .entry)) ⌝ }
 {
     let number = byte_in(input, 3) as usize;

@@ -24,7 +24,7 @@ use Rattle.controller.proofs.Runs.{pairs-length}
 use Rattle.controller.proofs.Goings.{Ends, all, cut, Kept}
 use Rattle.controller.proofs.Splitting.{running-kept, inside}
 use Rattle.playback.specs.Play.{PlayedAll, partOf, playOf, closedOf}
-use Rattle.playback.specs.Parts.{Part, logOfParts, Cut, none, one, Gathered, gather, playParts, begun, wholeRun, PartByPart, ClosedWhole}
+use Rattle.playback.specs.Parts.{Part, logOfParts, Cut, none, one, PartsGathered, gather, playParts, begun, wholeRun, PartByPart, ClosedWhole}
 use Rattle.playback.proofs.Plays.{play-refused, play-on}
 use Rattle.playback.proofs.Frees.{Free, free, freeFrom, onFree, shiftFree, Counted, Agrees, free-append, free-shift, free-counted, roomy}
 
@@ -41,7 +41,7 @@ parts-even none = refl
 parts-even (one {q} {qs} e r c) = omega (arith, parts-even c, length-append (q .log) (logOfParts qs))
 
 -- what was gathered, as the free run has it
-abbrev gathered : Free Machine → Gathered
+abbrev gathered : Free Machine → PartsGathered
 gathered f =
     record {
       ran = record {
@@ -56,7 +56,7 @@ gathered f =
     }
 
 -- the whole run, gathered
-abbrev ranGathered : RanAll → Gathered
+abbrev ranGathered : RanAll → PartsGathered
 ranGathered x = record { ran = x .ran; memory = x .memory; answers = take (x .ran .answers) (x .answers) }
 
 agrees-gathered : {f : Free Machine} {e : Run Machine} → Agrees f e → gathered f ≡ ranGathered (ranOf e)
@@ -74,7 +74,7 @@ agrees-gathered {f} {e} a =
     }
 
 -- a run that was refused goes no further
-stuck : (p : Panel) (rom : List ℕ) (ps : List Part) (g : Gathered) → (g .ran .number ≡ 0 → ⊥) → playParts p rom ps g ≡ g
+stuck : (p : Panel) (rom : List ℕ) (ps : List Part) (g : PartsGathered) → (g .ran .number ≡ 0 → ⊥) → playParts p rom ps g ≡ g
 unfolding playParts
 stuck p rom [] g nz = refl
 stuck p rom (q ∷ qs) g nz =
@@ -268,7 +268,7 @@ part-by-part p r mem rom answers q qs c room few = go (validPanel p && validRegi
 
 pub closed-whole : ClosedWhole
 closed-whole p r mem rom answers q qs last c lone room few =
-    ap (λ (g : Gathered). closedOf p r (length mem) (length rom) (length (log ++ last)) (g .ran)) (part-by-part p r mem rom answers q qs c room few)
+    ap (λ (g : PartsGathered). closedOf p r (length mem) (length rom) (length (log ++ last)) (g .ran)) (part-by-part p r mem rom answers q qs c room few)
     ∙ go last lone (validPanel p && validRegisters r) (lentLengths mem rom) refl refl
   where
     log : List ℕ

@@ -25,22 +25,22 @@ pub data Cut : List Part → Type 0 where
   one : {q : Part} {qs : List Part} → length (q .log) % 2 ≡ 0 → length (q .log) / 2 ≤ length (q .room) → Cut qs → Cut (q ∷ qs)
 
 -- what was played: the run so far, the memory, every answer
-pub record Gathered : Type 0 where
+pub record PartsGathered : Type 0 where
   pub ran : Ran
   pub memory : List ℕ
   pub answers : List ℕ
 
-abbrev pub gather : List ℕ → PlayedAll → Gathered
+abbrev pub gather : List ℕ → PlayedAll → PartsGathered
 gather before x =
     record { ran = x .played .ran; memory = x .memory; answers = before ++ take (x .played .given) (x .answers) }
 
 -- part after part, each from where the last one ended
-unfoldable pub playParts : Panel → List ℕ → List Part → Gathered → Gathered
+unfoldable pub playParts : Panel → List ℕ → List Part → PartsGathered → PartsGathered
 playParts p rom [] g = g
 playParts p rom (q ∷ qs) g =
     playParts p rom qs (gather (g .answers) (playOf p (g .ran) (g .memory) rom (q .log) (q .room)))
 
-abbrev pub begun : Registers → List ℕ → Gathered
+abbrev pub begun : Registers → List ℕ → PartsGathered
 begun r mem = record { ran = begunOf r; memory = mem; answers = [] }
 
 -- the run of a whole log, with room for all its answers

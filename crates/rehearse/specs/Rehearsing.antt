@@ -26,17 +26,17 @@ rehearsedNumber p (screen os) = cond (ltb 2097152 (2 * countOf p os)) 12 0
 rehearsedNumber p (refused n place) = n
 
 -- C, L, w, number, book: 1 where the panel is not valid, then what the screen comes to
-abbrev pub screenIn : List ℕ → Screen
-screenIn input =
+abbrev pub screenToRun : List ℕ → Screen
+screenToRun input =
     cond (validPanel (panelIn input)) (screenOf (panelIn input) (drop 4 input) (getD input 3 0)) (refused 1 0)
 
 unfoldable pub rehearseText : List ℕ → List ℕ → List ℕ
-rehearseText rom input = rehearsed (panelIn input) rom (screenIn input)
+rehearseText rom input = rehearsed (panelIn input) rom (screenToRun input)
 
 -- lent: 131,072 bytes of text, which suffice; the number is the screen's
 unfoldable pub rehearseTextOf : List ℕ → List ℕ → List ℕ → Reported
 rehearseTextOf rom input out =
     record {
       text = printText (eqb (length out) 131072) (rehearseText rom input) out;
-      number = rehearsedNumber (panelIn input) (screenIn input);
+      number = rehearsedNumber (panelIn input) (screenToRun input);
     }
