@@ -3,16 +3,12 @@
 #include <stdio.h>
 #include <string.h>
 
+#include "point.h"
 #include "second.h"
 
 static unsigned char memory[SECOND_MEMORY_LENGTH + 1], before_memory[SECOND_MEMORY_LENGTH + 1];
 static unsigned char rom[SECOND_ROM_LENGTH + 1];
 static const struct second_panel panel_1_1_8 = {1, 1, 8};
-
-static void point(const char *name, int holds)
-{
-    printf("%s %s\n", holds ? "ok" : "not ok", name);
-}
 
 static int same(const struct second_registers *a, const struct second_registers *b)
 {
@@ -344,10 +340,10 @@ static void attribute_codes(void)
                 if (table[attribute % 16].shows == REVERSE) expected = bits - expected;
                 if (table[attribute % 16].shows == INHIBIT) expected = 0;
                 registers.phase = SECOND_PHASE_NORMAL;
-                if (second_displayed_byte(&panel, &registers, memory, rom, 0, 0) != expected) wrong++;
+                if (second_displayed(&panel, &registers, memory, rom, 0, 0).displayed != expected) wrong++;
                 if (table[attribute % 16].blinks) expected = 0;
                 registers.phase = SECOND_PHASE_OFF;
-                if (second_displayed_byte(&panel, &registers, memory, rom, 0, 0) != expected) wrong++;
+                if (second_displayed(&panel, &registers, memory, rom, 0, 0).displayed != expected) wrong++;
             }
         }
     }

@@ -3,6 +3,7 @@
 #include <stdio.h>
 #include <string.h>
 
+#include "point.h"
 #include "screens.h"
 
 #define UNTOUCHED 0xEE
@@ -14,11 +15,6 @@ static unsigned char rom[SECOND_ROM_LENGTH + 1];
 static unsigned char graphic[49], text[7], glyphs[SECOND_GLYPHS_LENGTH + 1], frame[49];
 static const struct second_panel panel_3_2_6 = {3, 2, 6}; /* planes of 48 and 6 bytes, a frame of 48 */
 static const unsigned long opening_3_2 = 1057 + 9 * 3 * 2;
-
-static void point(const char *name, int holds)
-{
-    printf("%s %s\n", holds ? "ok" : "not ok", name);
-}
 
 static int all(const unsigned char *bytes, unsigned long length, unsigned char value)
 {

@@ -111,29 +111,52 @@ static unsigned attributed(const struct second_panel *panel, const struct second
     }
 }
 
-unsigned char second_displayed_byte(const struct second_panel *panel, const struct second_registers *registers,
-                                    const unsigned char *memory, const unsigned char *rom,
-                                    unsigned row, unsigned column)
+/* The low bits of the text row, after attribute; 0 where text is off. */
+static unsigned text_layer(const struct second_panel *panel, const struct second_registers *registers,
+                           const unsigned char *memory, const unsigned char *rom, unsigned row, unsigned column)
 {
     unsigned line = row / 8;
     unsigned v = row % 8;
     unsigned code = memory[address_of(registers->text_home, line, registers->text_area, column)];
     unsigned text = glyph_row(registers, memory, rom, code, v) & low_bits(panel);
-    unsigned graphic =
-        memory[address_of(registers->graphic_home, row, registers->graphic_area, column)] & low_bits(panel);
-    unsigned attribute = memory[address_of(registers->graphic_home, line, registers->graphic_area, column)];
-
-    if (!registers->text && !registers->graphic) return 0;
-    if (registers->combination == SECOND_ATTRIBUTE) {
-        if (!registers->text) return 0;
-        if (!registers->graphic) return (unsigned char)text;
-        return (unsigned char)attributed(panel, registers, attribute, text);
+    if (!registers->text) return 0;
+    if (registers->combination == SECOND_ATTRIBUTE && registers->graphic) {
+        unsigned attribute = memory[address_of(registers->graphic_home, line, registers->graphic_area, column)];
+        return attributed(panel, registers, attribute, text);
     }
-    if (!registers->graphic) return (unsigned char)text;
-    if (!registers->text) return (unsigned char)graphic;
-    if (registers->combination == SECOND_OR) return (unsigned char)(text | graphic);
-    if (registers->combination == SECOND_EXOR) return (unsigned char)(text ^ graphic);
-    return (unsigned char)(text & graphic);
+    return text;
+}
+
+/* The low bits of the graphic byte; 0 where graphic is off or in attribute mode. */
+static unsigned graphic_layer(const struct second_panel *panel, const struct second_registers *registers,
+                              const unsigned char *memory, unsigned row, unsigned column)
+{
+    if (!registers->graphic || registers->combination == SECOND_ATTRIBUTE) return 0;
+    return memory[address_of(registers->graphic_home, row, registers->graphic_area, column)] & low_bits(panel);
+}
+
+static unsigned combined(const struct second_registers *registers, unsigned text, unsigned graphic)
+{
+    if (!registers->text && !registers->graphic) return 0;
+    if (registers->combination == SECOND_ATTRIBUTE) return text; /* which is 0 with graphic only */
+    if (!registers->graphic) return text;
+    if (!registers->text) return graphic;
+    if (registers->combination == SECOND_OR) return text | graphic;
+    if (registers->combination == SECOND_EXOR) return text ^ graphic;
+    return text & graphic;
+}
+
+struct second_layers second_displayed(const struct second_panel *panel, const struct second_registers *registers,
+                                      const unsigned char *memory, const unsigned char *rom,
+                                      unsigned row, unsigned column)
+{
+    struct second_layers layers;
+    unsigned text = text_layer(panel, registers, memory, rom, row, column);
+    unsigned graphic = graphic_layer(panel, registers, memory, row, column);
+    layers.text = (unsigned char)text;
+    layers.graphic = (unsigned char)graphic;
+    layers.displayed = (unsigned char)combined(registers, text, graphic);
+    return layers;
 }
 
 int second_cursor_covers(const struct second_panel *panel, const struct second_registers *registers,
@@ -154,7 +177,7 @@ int second_dot(const struct second_panel *panel, const struct second_registers *
     unsigned column = x / panel->width;
     unsigned bit = panel->width - 1 - x % panel->width;
     if (second_cursor_covers(panel, registers, row, column)) return 1;
-    return (second_displayed_byte(panel, registers, memory, rom, row, column) >> bit) & 1;
+    return (second_displayed(panel, registers, memory, rom, row, column).displayed >> bit) & 1;
 }
 
 int second_position(const struct second_panel *panel, const struct second_registers *registers,
@@ -182,6 +205,20 @@ static unsigned lent_number(const struct second_panel *panel, const struct secon
     if (memory_length != SECOND_MEMORY_LENGTH) return 2;
     if (rom_length != SECOND_ROM_LENGTH) return 2;
     return 0;
+}
+
+struct second_layers_reply second_show_layers(const struct second_panel *panel,
+                                              const struct second_registers *registers,
+                                              const unsigned char *memory, unsigned long memory_length,
+                                              const unsigned char *rom, unsigned long rom_length,
+                                              unsigned row, unsigned column)
+{
+    struct second_layers_reply reply = {0, {0, 0, 0}};
+    reply.number = lent_number(panel, registers, memory_length, rom_length);
+    if (reply.number != 0) return reply;
+    if (row >= 8 * panel->lines || column >= panel->columns) return reply;
+    reply.layers = second_displayed(panel, registers, memory, rom, row, column);
+    return reply;
 }
 
 unsigned second_frame(const struct second_panel *panel, const struct second_registers *registers,
@@ -261,7 +298,7 @@ static void peek(const struct second_panel *panel, struct second_registers *regi
         registers->error = 1;
         return;
     }
-    registers->latch = second_displayed_byte(panel, registers, memory, rom, row, column);
+    registers->latch = second_displayed(panel, registers, memory, rom, row, column).displayed;
     registers->error = 0;
 }
 
@@ -276,7 +313,7 @@ static void copy(const struct second_panel *panel, struct second_registers *regi
     }
     /* A stored byte may be a text code or glyph row of the same dot row, so all are gathered first. */
     for (c = column; c < panel->columns; c++) {
-        gathered[c] = second_displayed_byte(panel, registers, memory, rom, row, c);
+        gathered[c] = second_displayed(panel, registers, memory, rom, row, c).displayed;
     }
     for (c = column; c < panel->columns; c++) {
         memory[address_of(registers->graphic_home, row, registers->graphic_area, c)] = gathered[c];

@@ -42,6 +42,18 @@ struct second_registers {
     unsigned phase;         /* SECOND_PHASE_NORMAL or SECOND_PHASE_OFF */
 };
 
+/* One dot row of one cell, 0 above the low w bits. */
+struct second_layers {
+    unsigned char text;      /* after the attribute; 0 where text is off */
+    unsigned char graphic;   /* 0 where graphic is off or in attribute mode */
+    unsigned char displayed; /* what comes of them, without the cursor */
+};
+
+struct second_layers_reply {
+    unsigned number;
+    struct second_layers layers; /* all 0 on refusal */
+};
+
 struct second_reply {
     unsigned number;
     unsigned long place;
@@ -64,9 +76,9 @@ unsigned long second_row_length(const struct second_panel *panel);
 unsigned long second_frame_length(const struct second_panel *panel);
 
 /* The next four ask for a valid panel and state, full lengths, and a row and column inside the panel. */
-unsigned char second_displayed_byte(const struct second_panel *panel, const struct second_registers *registers,
-                                    const unsigned char *memory, const unsigned char *rom,
-                                    unsigned row, unsigned column);
+struct second_layers second_displayed(const struct second_panel *panel, const struct second_registers *registers,
+                                      const unsigned char *memory, const unsigned char *rom,
+                                      unsigned row, unsigned column);
 int second_cursor_covers(const struct second_panel *panel, const struct second_registers *registers,
                          unsigned row, unsigned column);
 int second_dot(const struct second_panel *panel, const struct second_registers *registers,
@@ -74,6 +86,13 @@ int second_dot(const struct second_panel *panel, const struct second_registers *
 /* 1 and the pointer's first position, or 0 and both places unchanged. */
 int second_position(const struct second_panel *panel, const struct second_registers *registers,
                     unsigned *row, unsigned *column);
+
+/* The number: 0, 1 or 2. Outside the panel there are no dots: all three are 0. */
+struct second_layers_reply second_show_layers(const struct second_panel *panel,
+                                              const struct second_registers *registers,
+                                              const unsigned char *memory, unsigned long memory_length,
+                                              const unsigned char *rom, unsigned long rom_length,
+                                              unsigned row, unsigned column);
 
 /* The number: 0, 1 or 2. On refusal the frame is unchanged. */
 unsigned second_frame(const struct second_panel *panel, const struct second_registers *registers,

@@ -31,12 +31,12 @@ static int first_matters(const struct second_panel *panel, const struct second_r
     unsigned row, column, r, c;
     unsigned char first;
     if (!second_position(panel, registers, &row, &column)) return 0;
-    first = second_displayed_byte(panel, registers, memory, rom, row, column);
+    first = second_displayed(panel, registers, memory, rom, row, column).displayed;
     for (r = 0; r < 8 * panel->lines; r++) {
         for (c = 0; c < panel->columns; c++) {
             unsigned long place = registers->graphic_home + (unsigned long)r * registers->graphic_area + c;
             if (place % 65536 != registers->pointer) continue;
-            if (second_displayed_byte(panel, registers, memory, rom, r, c) != first) return 1;
+            if (second_displayed(panel, registers, memory, rom, r, c).displayed != first) return 1;
         }
     }
     return 0;
@@ -50,8 +50,8 @@ static int gather_matters(const struct second_panel *panel, const struct second_
     memcpy(other, memory, sizeof memory);
     for (c = column; c < panel->columns; c++) {
         unsigned long place = registers->graphic_home + (unsigned long)row * registers->graphic_area + c;
-        unsigned char byte = second_displayed_byte(panel, registers, other, rom, row, c);
-        if (byte != second_displayed_byte(panel, registers, memory, rom, row, c)) return 1;
+        unsigned char byte = second_displayed(panel, registers, other, rom, row, c).displayed;
+        if (byte != second_displayed(panel, registers, memory, rom, row, c).displayed) return 1;
         other[place % 65536] = byte;
     }
     return 0;
