@@ -1,4 +1,5 @@
-// The layers program: a panel, a cell and a log from standard input; text, graphic and what comes of them to standard output.
+// The layers program: a panel, a cell and a log from standard input; text, graphic and what comes of them to standard output. Started with
+// an argument it takes the character ROM before them.
 ghost use Prim.Native.Nat.{_≤_};
 use controller::run::run;
 use display::seen::row_layers;
@@ -12,12 +13,21 @@ use printed::fill::empty_memory;
 use printed::input::byte_in;
 use printed::input::panel_in;
 use printed::input::rest_in;
+use report::read_exact;
+use report::read_whole;
+use report::report;
 use state::panel::Panel;
 use state::registers::Display;
 use state::registers::Registers;
 
 // The column that asks for the whole frame: no panel has it.
 const WHOLE: usize = 255;
+
+// Whether all was written, and the run's number.
+struct Shown {
+    whole: bool,
+    number: u8,
+}
 
 fn put_field(word: &[u8], n: usize) -> bool {
     io::write_all(STDOUT_FILENO, word) & io::print_decimal(STDOUT_FILENO, n as u64)
@@ -163,29 +173,20 @@ fn put_layers(
     text & graphic & shown
 }
 
-// The number, on descriptor 3, where all was written.
-fn report(whole: bool, number: u8) {
-    if whole {
-        io::print_decimal(3, number as u64);
-        io::write_all(3, b"\n");
-    }
-}
-
 // The run's line, as the log program has it, then the layers; on refusals 1 and 8 the line only.
-fn show(input: &[u8]) {
+fn show(rom: &[u8], input: &[u8]) -> Shown {
     let panel = panel_in(input);
     let row = byte_in(input, 3) as usize;
     let column = byte_in(input, 4) as usize;
     let log = rest_in(input, 5);
     let mut memory = empty_memory();
-    let rom = character_rom();
     let mut answers = [0u8; 8192];
     let registers = Registers::reset();
     let ran = run(
         panel,
         registers,
         &mut memory,
-        &rom,
+        rom,
         log,
         log.len() / 2,
         &mut answers,
@@ -196,17 +197,42 @@ fn show(input: &[u8]) {
     let place = put_field(b" place ", ran.place);
     let line = taken & given & number & place & io::write_all(STDOUT_FILENO, b"\n");
     if (ran.number == 1) | (ran.number == 8) {
-        report(line, ran.number);
-        return;
+        return Shown {
+            whole: line,
+            number: ran.number,
+        };
     }
     let after = ran.registers;
     let display = after.display;
-    let put = put_layers(panel, display, &memory, &rom, row, column);
-    report(line & put, ran.number);
+    let put = put_layers(panel, display, &memory, rom, row, column);
+    Shown {
+        whole: line & put,
+        number: ran.number,
+    }
+}
+
+// With an argument the ROM is the input's first part, which has to be whole.
+fn take_rom(rom: &mut [u8]) -> bool {
+    if os::arg_count() > 1 {
+        read_exact(STDIN_FILENO, rom)
+    } else {
+        true
+    }
 }
 
 fn main() {
+    let mut rom = character_rom();
+    if !take_rom(&mut rom) {
+        return;
+    }
     let mut input = [0u8; 16389];
-    let got = io::read_full(STDIN_FILENO, &mut input);
-    show(&input[..got]);
+    let got = read_whole(STDIN_FILENO, &mut input);
+    if got.failed {
+        return;
+    }
+    let end = got.count;
+    let shown = show(&rom, &input[..end]);
+    if shown.whole {
+        report(shown.number);
+    }
 }
