@@ -7,12 +7,12 @@ use lib.ListN.{length}
 use borrow.Author.Tests.{eqb-true}
 use Rattle.ground.proofs.Tests.{both-left, both-right}
 use Rattle.state.specs.State.{validBus}
-use Rattle.sight.specs.Ready.{Ready}
+use Rattle.sight.specs.Ready.{Seeing}
 use Rattle.sight.proofs.Readied.{ready}
 use Rattle.controller.specs.Types.{Panel, Registers}
 use Rattle.controller.specs.Ready.{Runs}
 
-pub ready-runs : {p : Panel} {r : Registers} {mem rom : List ℕ} → Runs p r mem rom → Ready p (r .display) mem rom
+pub ready-runs : {p : Panel} {r : Registers} {mem rom : List ℕ} → Runs p r mem rom → Seeing p (r .display) mem rom
 ready-runs {p} {r} {mem} {rom} k = ready p (r .display) mem rom (k .panel) (both-left _ (validBus (r .bus)) (k .state)) (k .lent)
 
 pub runs-lengths : {p : Panel} {r : Registers} {mem rom : List ℕ} → Runs p r mem rom → (length mem ≡ 65536) × (length rom ≡ 1024)

@@ -7,7 +7,7 @@ ghost use Rattle.codes.specs.Command.{decodeOf};
 ghost use Rattle.effects.specs.Machine.{machine};
 ghost use Rattle.controller.specs.Access.{effectOf, obeyOf, commandOf, dataWriteOf, dataReadOf, stepOf, replied, actedOf, accessOf};
 ghost use Rattle.effects.specs.Effect.{withDisplay, withBus, withPhase, withPending, statusOf};
-ghost use Rattle.sight.specs.Ready.{Ready};
+ghost use Rattle.sight.specs.Ready.{Seeing};
 use crate::store::change;
 use crate::store::fetch;
 use crate::store::put;
@@ -58,7 +58,7 @@ fn effect(
     rom: &[u8],
     command: Command,
 ) -> Registers
-    requires { ⌜ Ready panel (registers .display) (now mem) (now rom) ⌝ }
+    requires { ⌜ Seeing panel (registers .display) (now mem) (now rom) ⌝ }
     ensures { λ r. ⌜ machine r (now (mem .exit)) ≡ effectOf panel (now (rom .entry)) (machine registers (now (mem .entry))) command ⌝ }
 {
     let mut next = registers;
@@ -128,7 +128,7 @@ fn drop_pending(registers: Registers) -> Registers
 
 // A defined code: refused in auto unless it is B2H, and where data are lacking.
 fn obey(panel: Panel, registers: Registers, mem: &mut [u8], rom: &[u8], command: Command) -> Acted
-    requires { ⌜ Ready panel (registers .display) (now mem) (now rom) ⌝ }
+    requires { ⌜ Seeing panel (registers .display) (now mem) (now rom) ⌝ }
     ensures { λ r. ⌜ replied r (now (mem .exit)) ≡ actedOf registers (now (mem .entry)) (obeyOf panel (now (rom .entry)) (machine registers (now (mem .entry))) command) ⌝ }
 {
     let bus = registers.bus;
@@ -155,7 +155,7 @@ fn obey(panel: Panel, registers: Registers, mem: &mut [u8], rom: &[u8], command:
 
 // A code is first taken apart; an undefined one ends the step there.
 fn command(panel: Panel, registers: Registers, mem: &mut [u8], rom: &[u8], code: u8) -> Acted
-    requires { ⌜ Ready panel (registers .display) (now mem) (now rom) ⌝ }
+    requires { ⌜ Seeing panel (registers .display) (now mem) (now rom) ⌝ }
     ensures { λ r. ⌜ replied r (now (mem .exit)) ≡ actedOf registers (now (mem .entry)) (commandOf panel (now (rom .entry)) (machine registers (now (mem .entry))) (decodeOf code)) ⌝ }
 {
     let Decoded::Defined(command) = decode(code) else {
@@ -260,7 +260,7 @@ pub(crate) fn step(
     kind: u8,
     byte: u8,
 ) -> Acted
-    requires { ⌜ Ready panel (registers .display) (now mem) (now rom) ⌝ }
+    requires { ⌜ Seeing panel (registers .display) (now mem) (now rom) ⌝ }
     ensures { λ r. ⌜ replied r (now (mem .exit)) ≡ actedOf registers (now (mem .entry)) (stepOf panel (now (rom .entry)) (machine registers (now (mem .entry))) (record { kind = kind; byte = byte })) ⌝ }
 {
     let bus = registers.bus;
