@@ -52,7 +52,7 @@ find_runner() {
         tools=$(sed -n 2p "$root/target/kit/$1" 2>/dev/null)
     fi
     [ -x "$tools/bin/qemu-x86_64" ] ||
-        fail "programs are x86-64 and this machine is $machine: it takes the Rattle kit's emulator, and 'rt', the kit's command, is not on PATH"
+        fail "programs are x86-64, this machine is $machine: it takes the Rattle kit's emulator, and 'rt', the kit's command, is not on PATH"
 }
 
 # run PROGRAM [WORD..]: programs are x86-64, and run through the kit's emulator elsewhere
@@ -136,7 +136,8 @@ build() {
 # prove PROGRAM: by the kit, with a line for each crate and what the prover says in target/log. rt leaves a program alone that has not
 # changed, so its time is set here, to when this began.
 prove() {
-    [ "$state" = current ] || say "proving and building the $1 program, which is $state: $(($(below "$1" | wc -l))) crates, the first time some minutes"
+    count=$(($(below "$1" | wc -l)))
+    [ "$state" = current ] || say "proving and building the $1 program, which is $state: $count crates, the first time some minutes"
     began=$root/target/kit/$1.began
     talk=$work/talk
     { true >"$began" && mkfifo "$talk"; } 2>/dev/null || fail "'$root/target' or '$work' can't be written"
@@ -151,8 +152,9 @@ prove() {
     [ "$proved" = 0 ] || fail "the $1 program was not proved and built; target/log/$1.build has all that was said"
     find_kit
     note=$root/target/kit/$1
-    { rt version && echo "$tools"; } >"$note.new" && mv -f "$note.new" "$note" && touch -r "$began" "$root/target/bin/$1" && rm -f "$began" ||
+    { rt version && echo "$tools"; } >"$note.new" && mv -f "$note.new" "$note" && touch -r "$began" "$root/target/bin/$1" ||
         fail "'$root/target' can't be written"
+    rm -f "$began"
 }
 
 # told FILE: of what rt says, the crates and their seconds; all of it into the file

@@ -57,12 +57,16 @@ refuse_book() {
         if [ "$2" != 0 ]; then
             echo "refused: 9, the book's contents are wrong: entry $((($2 - 1) / 4)), $at"
         else
-            echo "refused: 9, the book is empty or too long, has no screens or too many, or ends inside its contents: it has $(($(size "$work/in") - 4)) bytes"
+            length=$(size "$work/in")
+            echo "refused: 9, the book is empty or too long, has no screens or too many, or ends inside its contents:" \
+                "it has $((length < 4 ? 0 : length - 4)) bytes"
         fi
         ;;
     10) echo "refused: 10, there is no screen $((screen)): the book has $(($(bytes "$work/in" 4 1))), counted from 0" ;;
     11)
-        echo "refused: 11, an operation that is unknown, cut off or out of range for the panel: $at: operation $(($(bytes "$work/in" $((4 + $2)) 1)))" ;;
+        operation=$(bytes "$work/in" $((4 + $2)) 1)
+        echo "refused: 11, an operation that is unknown, cut off or out of range for the panel: $at: operation $((operation))"
+        ;;
     12) echo "refused: 12, the stream is too long: it has $2 pairs" ;;
     *) echo "refused: $1, see docs/NUMBERS.md: place $2" ;;
     esac
