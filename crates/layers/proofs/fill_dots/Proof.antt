@@ -1,8 +1,8 @@
 -- `fill_dots` is safe and ends: the line keeps its length.
-use mathlib.Core.Path.{_≡_, refl, _∙_}
+use mathlib.Core.Path.{_≡_, refl}
 use Prim.Native.Nat.{_-_}
 use native.Mathlib.Omega.{arith}
-use lib.ListN.{length, length-set}
+use lib.ListN.{length}
 use borrow.Author.Needs.{needs}
 use Rattle.layers.proofs.fill_dots.Statement.{statement}
 use Rattle.layers.proofs.fill_dots.Tie as tie

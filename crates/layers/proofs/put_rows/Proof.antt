@@ -1,5 +1,5 @@
 -- `put_rows` is safe and ends.
-use Prim.Native.Nat.{_-_, _*_, _≤_}
+use Prim.Native.Nat.{_-_, _≤_}
 use native.Mathlib.Omega.{arith}
 use borrow.Author.Needs.{needs}
 use Rattle.layers.proofs.put_rows.Statement.{statement}
