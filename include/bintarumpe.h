@@ -105,6 +105,15 @@ unsigned char t6963c_paint(unsigned long columns, unsigned long lines, unsigned 
                            const unsigned char *rom, unsigned long rom_length,
                            unsigned char *frame, unsigned long frame_length);
 
+/* The layers of a cell row, without the cursor: the number in the low byte, then the low w bits of the text row after its attribute (0 where
+   text is off), of the graphic byte (0 where graphic is off or in attribute mode), and of what comes of them; 0 on a refusal. Any dot row
+   and column may be asked for: past the panel the addresses go on. */
+unsigned t6963c_layers(unsigned long columns, unsigned long lines, unsigned long width,
+                       const unsigned char *registers, unsigned long registers_length,
+                       const unsigned char *memory, unsigned long memory_length,
+                       const unsigned char *rom, unsigned long rom_length,
+                       unsigned long row, unsigned long column);
+
 #ifdef __cplusplus
 }
 #endif

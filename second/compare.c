@@ -24,6 +24,8 @@ struct side {
     unsigned number;
     unsigned long place, taken, given;
     unsigned painted;
+    /* number, text, graphic and shown of a cell row, the number lowest */
+    unsigned layers;
 };
 
 /* What both sides are given. */
@@ -39,6 +41,17 @@ struct trial {
 static struct trial trial;
 static struct side proved, second;
 
+/* A cell row of the panel that changes with the run; 0 and 0 where there is no panel. */
+static unsigned long row_of(const struct side *s)
+{
+    return trial.panel.lines ? (7 * s->taken + s->given + trial.memory[1]) % (8 * trial.panel.lines) : 0;
+}
+
+static unsigned long column_of(const struct side *s)
+{
+    return trial.panel.columns ? (3 * s->taken + trial.memory[0]) % trial.panel.columns : 0;
+}
+
 /* The proved side, through its boundary. */
 static void run_proved(struct side *s, unsigned long from, unsigned long limit)
 {
@@ -50,11 +63,14 @@ static void run_proved(struct side *s, unsigned long from, unsigned long limit)
     s->place = counts[0], s->taken = counts[1], s->given = before + counts[2];
     s->painted = t6963c_paint(trial.panel.columns, trial.panel.lines, trial.panel.width, s->registers, REGISTERS, s->memory,
                               trial.memory_length, trial.rom, trial.rom_length, s->frame, trial.frame_length);
+    s->layers = t6963c_layers(trial.panel.columns, trial.panel.lines, trial.panel.width, s->registers, REGISTERS, s->memory,
+                              trial.memory_length, trial.rom, trial.rom_length, row_of(s), column_of(s));
 }
 
 static void run_second(struct side *s, unsigned long from, unsigned long limit)
 {
     struct second_registers r;
+    struct second_layers_reply seen;
     const unsigned long before = s->given;
     from_bytes(s->registers, &r);
     /* Counts of another length than three are refused like any other fixed length: by 2, where panel and state are valid. */
@@ -71,12 +87,16 @@ static void run_second(struct side *s, unsigned long from, unsigned long limit)
     to_bytes(&r, s->registers);
     s->painted = second_frame(&trial.panel, &r, s->memory, trial.memory_length, trial.rom, trial.rom_length, s->frame,
                               trial.frame_length);
+    seen = second_show_layers(&trial.panel, &r, s->memory, trial.memory_length, trial.rom, trial.rom_length, (unsigned)row_of(s),
+                              (unsigned)column_of(s));
+    s->layers = seen.number | (unsigned)seen.layers.text << 8 | (unsigned)seen.layers.graphic << 16 |
+                (unsigned)seen.layers.displayed << 24;
 }
 
 static int same(void)
 {
     return proved.number == second.number && proved.place == second.place && proved.taken == second.taken &&
-           proved.given == second.given && proved.painted == second.painted &&
+           proved.given == second.given && proved.painted == second.painted && proved.layers == second.layers &&
            memcmp(proved.registers, second.registers, REGISTERS) == 0 &&
            memcmp(proved.memory, second.memory, SECOND_MEMORY_LENGTH) == 0 &&
            memcmp(proved.answers, second.answers, ANSWERS) == 0 && memcmp(proved.frame, second.frame, FRAME + 1) == 0;

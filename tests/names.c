@@ -69,6 +69,8 @@ static int tried(void)
     command(0x94, 0, 0);
     HOLDS(t6963c_paint(2, 1, 6, r, sizeof r, memory, sizeof memory, rom, sizeof rom, frame, 16) == T6963C_DONE);
     HOLDS(frame[2 * T6963C_ROW_SIZE(2, 6)] == 0x84 && frame[2 * T6963C_ROW_SIZE(2, 6) + 1] == 0);
+    HOLDS(t6963c_layers(2, 1, 6, r, sizeof r, memory, sizeof memory, rom, sizeof rom, 2, 0) == 0x21002100u);
+    HOLDS(t6963c_layers(2, 1, 7, r, sizeof r, memory, sizeof memory, rom, sizeof rom, 2, 0) == T6963C_NOT_VALID);
     HOLDS(t6963c_paint(2, 1, 6, r, sizeof r, memory, sizeof memory, rom, sizeof rom, frame, 15) == T6963C_LENGTH);
     HOLDS(t6963c_paint(81, 1, 6, r, sizeof r, memory, sizeof memory, rom, sizeof rom, frame, 15) == T6963C_NOT_VALID);
     return 0;

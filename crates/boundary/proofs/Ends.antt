@@ -10,13 +10,15 @@ use borrow.Author.Tests.{eq-eqb, ne-eqb}
 use Rattle.ground.specs.Bytes.{wordOf}
 use Rattle.ground.proofs.Tests.{settled}
 use Rattle.state.specs.State.{resetRegisters}
+use Rattle.display.specs.declared.seen.Seen.{Seen}
 use Rattle.display.specs.Frame.{painted, paintOf}
+use Rattle.display.specs.Layers.{layersOf}
 use Rattle.controller.specs.Access.{Pair, replied, accessOf}
 use Rattle.controller.specs.Run.{ranAll, runOf}
 use Rattle.boundary.specs.Types.{Panel, Registers, Acted, Ran, Reply, Entry, State, Refused}
 use Rattle.boundary.specs.Image.{bytesOf}
 use Rattle.boundary.specs.Door.{doorOf, keptOf, countsOf}
-use Rattle.boundary.specs.Exports.{AccessEnd, accessEnd, accessDone, accessBy, accessBytes, RunEnd, runEnd, runDone, runBy, runBytes, PaintEnd, paintEnd, paintDone, paintBy, paintBytes, ResetEnd, resetEnd, resetBytes}
+use Rattle.boundary.specs.Exports.{AccessEnd, accessEnd, accessDone, accessBy, accessBytes, RunEnd, runEnd, runDone, runBy, runBytes, PaintEnd, paintEnd, paintDone, paintBy, paintBytes, layersWord, layersDone, layersBy, layersBytes, ResetEnd, resetEnd, resetBytes}
 
 module _ (p : Panel) (b mem rom : List ℕ) (q : Pair) {x : Entry} (h : x ≡ doorOf p true b) where
   access-by : {y : Entry} → x ≡ y → accessBy y p b mem rom q ≡ accessBytes p b mem rom q
@@ -55,6 +57,18 @@ module _ (p : Panel) (b mem rom frame : List ℕ) {x : Entry} (h : x ≡ doorOf 
       → paintEnd (a .number) f ≡ paintBytes p b mem rom frame
   paint-done e f = ap paintDone f ∙ paint-by e
 
+module _ (p : Panel) (b mem rom : List ℕ) (row column : ℕ) {x : Entry} (h : x ≡ doorOf p true b) where
+  layers-by : {y : Entry} → x ≡ y → layersBy y p mem rom row column ≡ layersBytes p b mem rom row column
+  unfolding layersBytes
+  layers-by e = ap (λ (y : Entry). layersBy y p mem rom row column) (sym e ∙ h)
+
+  pub layers-refused : {n w : ℕ} → x ≡ Refused n → w ≡ layersWord n 0 0 0 → w ≡ layersBytes p b mem rom row column
+  layers-refused e k = k ∙ layers-by e
+
+  pub layers-done : {r : Registers} {s : Seen} {w : ℕ} → x ≡ State r → s ≡ layersOf p (r .display) mem rom row column
+      → w ≡ layersDone s → w ≡ layersBytes p b mem rom row column
+  layers-done e f k = k ∙ ap layersDone f ∙ layers-by e
+
 module _ (b : List ℕ) where
   reset-by : (v : Bool) → eqb (length b) 25 ≡ v → cond v (resetEnd 0 (bytesOf resetRegisters)) (resetEnd 2 b) ≡ resetBytes b
   unfolding resetBytes
@@ -88,3 +102,7 @@ paint-settled p bytes mem rom frame h k =
 pub reset-settled : {v w : ℕ} {b c : List ℕ} (bytes : List ℕ) → resetEnd v b ≡ resetBytes bytes → resetEnd w c ≡ resetBytes bytes → (v ≡ w) × (b ≡ c)
 reset-settled bytes h k =
     let e = settled h k in (ap (λ (o : ResetEnd). o .number) e, ap (λ (o : ResetEnd). o .registers) e)
+
+pub layers-settled : {v w : ℕ} (p : Panel) (bytes mem rom : List ℕ) (row column : ℕ)
+    → v ≡ layersBytes p bytes mem rom row column → w ≡ layersBytes p bytes mem rom row column → v ≡ w
+layers-settled p bytes mem rom row column h k = settled h k

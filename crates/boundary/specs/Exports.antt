@@ -1,12 +1,14 @@
 -- What each export answers, and what it leaves in the buffers that it may write.
-use Prim.Native.Nat.{ℕ}
+use Prim.Native.Nat.{ℕ, _+_, _*_}
 use mathlib.Core.Bool.{true, cond}
 use mathlib.Core.List.{List}
 use lib.Dec.{eqb}
 use lib.ListN.{length}
 use Rattle.ground.specs.Bytes.{wordOf}
 use Rattle.state.specs.State.{resetRegisters}
+use Rattle.display.specs.declared.seen.Seen.{Seen}
 use Rattle.display.specs.Frame.{Painted, paintOf}
+use Rattle.display.specs.Layers.{layersOf}
 use Rattle.controller.specs.Access.{Pair, Accessed, accessOf}
 use Rattle.controller.specs.Run.{RanAll, runOf}
 use Rattle.boundary.specs.Types.{Panel, Entry, State, Refused}
@@ -80,6 +82,20 @@ paintBy (Refused n) p mem rom frame = paintEnd n frame
 
 unfoldable pub paintBytes : Panel → List ℕ → List ℕ → List ℕ → List ℕ → PaintEnd
 paintBytes p b mem rom frame = paintBy (doorOf p true b) p mem rom frame
+
+-- the layers of a cell row: the number in the low byte, then text, graphic and what comes of them (02, Req 07)
+abbrev pub layersWord : ℕ → ℕ → ℕ → ℕ → ℕ
+layersWord number text graphic shown = number + 256 * text + 65536 * graphic + 16777216 * shown
+
+abbrev pub layersDone : Seen → ℕ
+layersDone s = layersWord (s .number) (s .text) (s .graphic) (s .shown)
+
+abbrev pub layersBy : Entry → Panel → List ℕ → List ℕ → ℕ → ℕ → ℕ
+layersBy (State r) p mem rom row column = layersDone (layersOf p (r .display) mem rom row column)
+layersBy (Refused n) p mem rom row column = layersWord n 0 0 0
+
+unfoldable pub layersBytes : Panel → List ℕ → List ℕ → List ℕ → ℕ → ℕ → ℕ
+layersBytes p b mem rom row column = layersBy (doorOf p true b) p mem rom row column
 
 -- a reset
 pub record ResetEnd : Type 0 where

@@ -1,6 +1,6 @@
 // The functions that C calls: every input gets a reply.
 ghost use mathlib.Core.Path.{_≡_};
-ghost use Rattle.boundary.specs.Exports.{panelOf, accessEnd, accessBytes, runEnd, runBytes, paintEnd, paintBytes, resetEnd, resetBytes};
+ghost use Rattle.boundary.specs.Exports.{panelOf, accessEnd, accessBytes, runEnd, runBytes, paintEnd, paintBytes, layersWord, layersBytes, resetEnd, resetBytes};
 use super::door::Entry;
 use super::door::count;
 use super::door::enter;
@@ -9,6 +9,7 @@ use super::image::encode;
 use controller::access::access;
 use controller::run::run;
 use display::frame::paint;
+use display::seen::layers;
 use ground::bytes::word;
 use state::panel::Panel;
 use state::registers::Registers;
@@ -101,6 +102,42 @@ pub extern "C" fn t6963c_paint(
             reply.number
         }
         Entry::Refused(number) => number,
+    }
+}
+
+// Four bytes as one number, the first the lowest.
+fn layers_word(number: u8, text: u8, graphic: u8, shown: u8) -> u32
+    ensures { λ r. ⌜ r ≡ layersWord number text graphic shown ⌝ }
+{
+    number as u32 + 256 * (text as u32) + 65536 * (graphic as u32) + 16777216 * (shown as u32)
+}
+
+// The layers of a cell row: the number in the low byte, then text, graphic and what comes of them.
+#[no_mangle]
+pub extern "C" fn t6963c_layers(
+    columns: usize,
+    lines: usize,
+    width: usize,
+    registers: &[u8],
+    memory: &[u8],
+    rom: &[u8],
+    row: usize,
+    column: usize,
+) -> u32
+    ensures { λ r. ⌜ r ≡ layersBytes (panelOf columns lines width) (now (registers .entry)) (now (memory .entry)) (now (rom .entry)) row column ⌝ }
+{
+    let panel = Panel {
+        columns,
+        lines,
+        width,
+    };
+    match enter(panel, true, registers) {
+        Entry::State(state) => {
+            let display = state.display;
+            let seen = layers(panel, display, memory, rom, row, column);
+            layers_word(seen.number, seen.text, seen.graphic, seen.shown)
+        }
+        Entry::Refused(number) => layers_word(number, 0, 0, 0),
     }
 }
 
