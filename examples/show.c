@@ -48,14 +48,14 @@ int main(int argc, char **argv)
     width = input[2];
 
     t6963c_reset(registers, sizeof registers);
-    number = t6963c_run(columns, lines, width, registers, sizeof registers, memory, sizeof memory, rom, sizeof rom,
+    number = t6963c_run(columns, lines, width, T6963C_SINGLE, registers, sizeof registers, memory, sizeof memory, rom, sizeof rom,
                         input + 3, (unsigned long)length - 3, LOG_MAX, answers, sizeof answers, counts, T6963C_COUNTS_SIZE);
     if (number == T6963C_NOT_VALID || number == T6963C_ODD_LOG) {
         fprintf(stderr, "show: refused: %d\n", number);
         return 1;
     }
     for (answer = 0; answer < counts[T6963C_ANSWERS]; answer++) printf("%02X\n", answers[answer]);
-    if (t6963c_paint(columns, lines, width, registers, sizeof registers, memory, sizeof memory, rom, sizeof rom,
+    if (t6963c_paint(columns, lines, width, T6963C_SINGLE, registers, sizeof registers, memory, sizeof memory, rom, sizeof rom,
                      frame, T6963C_FRAME_SIZE(columns, lines, width)) != T6963C_DONE) {
         return 2;
     }

@@ -6,11 +6,16 @@
 #ifndef BINTARUMPE_H
 #define BINTARUMPE_H
 
-/* The panel: columns (C), lines of text (L) and cell width (w); it shows 8 * lines rows of columns * width dots. */
-#define T6963C_COLUMNS_MAX 80 /* 1 to 80 */
-#define T6963C_LINES_MAX 16   /* 1 to 16 */
-#define T6963C_WIDTH_6 6      /* a width is 6 or 8 */
+/* The panel: columns (C), lines of text (L), cell width (w) and a marker; it shows 8 * lines rows of columns * width dots. A dual panel is
+   scanned in two halves, of lines / 2 lines each: line l of the lower one has cursor Y 16 + l - lines / 2, and copy is invalid there, so
+   that it only sets error. Memory goes on line by line through both halves. */
+#define T6963C_COLUMNS_MAX 80    /* 1 to 80 */
+#define T6963C_LINES_MAX 16      /* of a single panel, 1 to 16 */
+#define T6963C_DUAL_LINES_MAX 32 /* of a dual one, 2 to 32, even */
+#define T6963C_WIDTH_6 6         /* a width is 6 or 8 */
 #define T6963C_WIDTH_8 8
+#define T6963C_SINGLE 0          /* a marker is 0 or 1 */
+#define T6963C_DUAL 1
 
 /* The buffers' sizes, in elements. */
 #define T6963C_MEMORY_SIZE 65536    /* display memory, exactly */
@@ -18,7 +23,7 @@
                                        low `width` bits show, the highest of them leftmost */
 #define T6963C_REGISTERS_SIZE 25    /* registers, exactly */
 #define T6963C_COUNTS_SIZE 3        /* a run's counts, exactly */
-#define T6963C_FRAME_SIZE_MAX 10240 /* the largest frame */
+#define T6963C_FRAME_SIZE_MAX 20480 /* the largest frame, a dual panel's */
 /* A row of the frame, and the frame, in bytes: the leftmost dot is in the top bit, spare bits at a row's end are 0. */
 #define T6963C_ROW_SIZE(columns, width) (((columns) * (width) + 7) / 8)
 #define T6963C_FRAME_SIZE(columns, lines, width) (8 * (lines) * T6963C_ROW_SIZE(columns, width))
@@ -33,7 +38,7 @@
 /* The numbers returned. 1 comes before 2, but for registers that are not 25 bytes: where the panel is valid they give 2. On 1 and 2 no
    buffer is written. */
 #define T6963C_DONE 0
-#define T6963C_NOT_VALID 1       /* panel or registers, or a byte of the registers that stands for nothing */
+#define T6963C_NOT_VALID 1       /* panel (a marker above 1 too) or registers, or a byte of the registers that stands for nothing */
 #define T6963C_LENGTH 2          /* a buffer of another length than it must have */
 #define T6963C_KIND 3            /* of a pair: a kind above 4 */
 #define T6963C_CODE 4            /* an undefined command code */
@@ -80,7 +85,7 @@ extern "C" {
 unsigned char t6963c_reset(unsigned char *registers, unsigned long registers_length);
 
 /* One access: the number in the low byte, the byte read (or 0) in the high one. A refused access changes nothing. */
-unsigned short t6963c_access(unsigned long columns, unsigned long lines, unsigned long width,
+unsigned short t6963c_access(unsigned long columns, unsigned long lines, unsigned long width, unsigned char dual,
                              unsigned char *registers, unsigned long registers_length,
                              unsigned char *memory, unsigned long memory_length,
                              const unsigned char *rom, unsigned long rom_length,
@@ -89,7 +94,7 @@ unsigned short t6963c_access(unsigned long columns, unsigned long lines, unsigne
 /* At most `limit` pairs (kind, byte) of a log, whose length is in bytes: the number. The counts are then filled in; a refused pair ends
    the run and leaves what the pairs before it did. Every answer takes one byte of `answers`, so half the log's length is always enough.
    A long log may be run in parts: go on with the rest of it, and the answers' rest, with the same registers and memory. */
-unsigned char t6963c_run(unsigned long columns, unsigned long lines, unsigned long width,
+unsigned char t6963c_run(unsigned long columns, unsigned long lines, unsigned long width, unsigned char dual,
                          unsigned char *registers, unsigned long registers_length,
                          unsigned char *memory, unsigned long memory_length,
                          const unsigned char *rom, unsigned long rom_length,
@@ -99,16 +104,16 @@ unsigned char t6963c_run(unsigned long columns, unsigned long lines, unsigned lo
                          unsigned long *counts, unsigned long counts_length);
 
 /* The frame, row after row: the number. A refusal leaves it as it was. */
-unsigned char t6963c_paint(unsigned long columns, unsigned long lines, unsigned long width,
+unsigned char t6963c_paint(unsigned long columns, unsigned long lines, unsigned long width, unsigned char dual,
                            const unsigned char *registers, unsigned long registers_length,
                            const unsigned char *memory, unsigned long memory_length,
                            const unsigned char *rom, unsigned long rom_length,
                            unsigned char *frame, unsigned long frame_length);
 
-/* The layers of a cell row, without the cursor: the number in the low byte, then the low w bits of the text row after its attribute (0 where
-   text is off), of the graphic byte (0 where graphic is off or in attribute mode), and of what comes of them; 0 on a refusal. Any dot row
-   and column may be asked for: past the panel the addresses go on. */
-unsigned t6963c_layers(unsigned long columns, unsigned long lines, unsigned long width,
+/* The layers of a cell row, without the cursor: the number in the low byte, then the low w bits of the text row after its attribute (0
+   where text is off), of the graphic byte (0 where graphic is off or in attribute mode), and of what comes of them; 0 on a refusal. Any
+   dot row and column may be asked for: past the panel the addresses go on. */
+unsigned t6963c_layers(unsigned long columns, unsigned long lines, unsigned long width, unsigned char dual,
                        const unsigned char *registers, unsigned long registers_length,
                        const unsigned char *memory, unsigned long memory_length,
                        const unsigned char *rom, unsigned long rom_length,

@@ -11,7 +11,7 @@ int clock_gettime(int clock, long *time);
 void *memcpy(void *to, const void *from, unsigned long count);
 int memcmp(const void *one, const void *other, unsigned long count);
 
-enum { ROUNDS = 15, LOG = 400000, FRAME = 8 * 16 * 80 };
+enum { ROUNDS = 15, LOG = 400000, FRAME = 8 * 32 * 80 };
 
 static unsigned char memory[SECOND_MEMORY_LENGTH], start[SECOND_MEMORY_LENGTH], rom[SECOND_ROM_LENGTH];
 static unsigned char log_bytes[LOG], answers[LOG], frame[FRAME], other[FRAME];
@@ -71,7 +71,7 @@ static unsigned long make(unsigned work)
 static int runs(void)
 {
     static const char *const works[] = {"run, blocks in auto write", "run, single stores", "run, asking, reads, bits, modes"};
-    const struct second_panel panel = {30, 8, 8};
+    const struct second_panel panel = {30, 8, 8, 0};
     for (unsigned work = 0; work < 3; work++) {
         const unsigned long length = make(work);
         double times[3][ROUNDS];
@@ -81,7 +81,7 @@ static int runs(void)
             unsigned long counts[3];
             second_reset(&r), q = r, to_bytes(&r, b);
             double before = now();
-            const unsigned number = t6963c_run(panel.columns, panel.lines, panel.width, b, REGISTERS, memory, SECOND_MEMORY_LENGTH, rom,
+            const unsigned number = t6963c_run(panel.columns, panel.lines, panel.width, 0, b, REGISTERS, memory, SECOND_MEMORY_LENGTH, rom,
                                                SECOND_ROM_LENGTH, log_bytes, length, length, answers, LOG, counts, 3);
             times[0][round] = now() - before, before = now();
             const struct second_run_reply reply = second_run(&panel, &r, memory, SECOND_MEMORY_LENGTH, rom, SECOND_ROM_LENGTH, log_bytes,
@@ -102,9 +102,9 @@ static int runs(void)
 
 static int paints(void)
 {
-    static const struct second_panel panels[] = {{16, 8, 8}, {40, 16, 6}, {80, 16, 8}};
+    static const struct second_panel panels[] = {{16, 8, 8, 0}, {40, 16, 6, 0}, {80, 16, 8, 0}, {80, 32, 8, 1}};
     static const char *const modes[] = {"text", "both layers", "attribute"};
-    for (unsigned which = 0; which < 3; which++)
+    for (unsigned which = 0; which < sizeof panels / sizeof panels[0]; which++)
         for (unsigned mode = 0; mode < 3; mode++) {
             const struct second_panel *p = &panels[which];
             const unsigned long length = 8UL * p->lines * ((p->columns * p->width + 7) / 8);
@@ -119,7 +119,8 @@ static int paints(void)
             for (unsigned round = 0; round < ROUNDS; round++) {
                 double before = now();
                 for (unsigned i = 0; i < times_each; i++)
-                    if (t6963c_paint(p->columns, p->lines, p->width, b, REGISTERS, start, SECOND_MEMORY_LENGTH, rom, SECOND_ROM_LENGTH, frame, length))
+                    if (t6963c_paint(p->columns, p->lines, p->width, (unsigned char)p->dual, b, REGISTERS, start, SECOND_MEMORY_LENGTH, rom,
+                                     SECOND_ROM_LENGTH, frame, length))
                         return 1;
                 times[0][round] = now() - before, before = now();
                 for (unsigned i = 0; i < times_each; i++)

@@ -1,6 +1,7 @@
-/* The proved controller against the second one, in one process: random logs, from random valid and invalid states and memories,
-   in two parts, everything compared after each. `compare SEED PAIRS` goes on until it has compared that many pairs. Every fiftieth
-   seed is tried once more with a long block of data in its log; these pairs are counted beside, and not among the wanted ones. */
+/* The proved controller against the second one, in one process: random logs, from random valid and invalid states and memories, on dual
+   panels half of the time, in two parts, everything compared after each. `compare SEED PAIRS` goes on until it has compared that many
+   pairs. Every fiftieth seed is tried once more with a long block of data in its log; these pairs are counted beside, and not among the
+   wanted ones. */
 #include "../include/bintarumpe.h"
 #include "generate.h"
 #include "image.h"
@@ -13,7 +14,7 @@ void *memcpy(void *to, const void *from, unsigned long count);
 int memcmp(const void *one, const void *other, unsigned long count);
 
 /* BLOCK: the pairs of the longest block and of what leads to it. */
-enum { ANSWERS = 300, COUNTS = 4, FRAME = 8 * 16 * 80, LOG = 1200, BLOCK = 2 * 65536 + 200, EVERY = 50 };
+enum { ANSWERS = 300, COUNTS = 4, FRAME = 8 * 32 * 80, LOG = 1200, BLOCK = 2 * 65536 + 200, EVERY = 50 };
 
 /* One side's buffers. */
 struct side {
@@ -57,14 +58,14 @@ static void run_proved(struct side *s, unsigned long from, unsigned long limit)
 {
     unsigned long counts[COUNTS] = {0};
     const unsigned long before = s->given;
-    s->number = t6963c_run(trial.panel.columns, trial.panel.lines, trial.panel.width, s->registers, REGISTERS, s->memory,
-                           trial.memory_length, trial.rom, trial.rom_length, trial.log + from, trial.log_length - from, limit,
-                           s->answers + before, trial.answers_length - before, counts, trial.counts_length);
+    s->number = t6963c_run(trial.panel.columns, trial.panel.lines, trial.panel.width, (unsigned char)trial.panel.dual, s->registers,
+                           REGISTERS, s->memory, trial.memory_length, trial.rom, trial.rom_length, trial.log + from,
+                           trial.log_length - from, limit, s->answers + before, trial.answers_length - before, counts, trial.counts_length);
     s->place = counts[0], s->taken = counts[1], s->given = before + counts[2];
-    s->painted = t6963c_paint(trial.panel.columns, trial.panel.lines, trial.panel.width, s->registers, REGISTERS, s->memory,
-                              trial.memory_length, trial.rom, trial.rom_length, s->frame, trial.frame_length);
-    s->layers = t6963c_layers(trial.panel.columns, trial.panel.lines, trial.panel.width, s->registers, REGISTERS, s->memory,
-                              trial.memory_length, trial.rom, trial.rom_length, row_of(s), column_of(s));
+    s->painted = t6963c_paint(trial.panel.columns, trial.panel.lines, trial.panel.width, (unsigned char)trial.panel.dual, s->registers,
+                              REGISTERS, s->memory, trial.memory_length, trial.rom, trial.rom_length, s->frame, trial.frame_length);
+    s->layers = t6963c_layers(trial.panel.columns, trial.panel.lines, trial.panel.width, (unsigned char)trial.panel.dual, s->registers,
+                              REGISTERS, s->memory, trial.memory_length, trial.rom, trial.rom_length, row_of(s), column_of(s));
 }
 
 static void run_second(struct side *s, unsigned long from, unsigned long limit)
@@ -142,13 +143,29 @@ static void make_state(struct generate_random *random)
         trial.registers[below(random, REGISTERS)] = (unsigned char)below(random, 256);
 }
 
+/* In one of thirty, lines at an edge of what the marker lets through, a marker that is none, or the other kind's. */
+static void spoil_panel(struct generate_random *random)
+{
+    static const unsigned char edges[] = {0, 1, 2, 15, 16, 17, 18, 31, 32, 33, 34};
+    if (below(random, 30))
+        return;
+    switch (below(random, 3)) {
+    case 0: trial.panel.lines = edges[below(random, sizeof edges)]; break;
+    case 1: trial.panel.dual = below(random, 2) ? 2 + below(random, 254) : 2; break;
+    default: trial.panel.dual = 1 - trial.panel.dual; break;
+    }
+}
+
 static void make(unsigned long long seed)
 {
     static unsigned char input[GENERATE_ROOM];
     struct generate_random random = {seed ^ 0x5eedULL};
-    const unsigned long length = generate_input(seed, input);
+    unsigned long length;
+    trial.panel.dual = below(&random, 2);
+    length = trial.panel.dual ? generate_dual_input(seed, input) : generate_input(seed, input);
     trial.panel.columns = length > 0 ? input[0] : 0, trial.panel.lines = length > 1 ? input[1] : 0;
     trial.panel.width = length > 2 ? input[2] : 0;
+    spoil_panel(&random);
     trial.log_length = length > 3 ? length - 3 : 0;
     if (trial.log_length > LOG)
         trial.log_length = LOG - below(&random, 2);
@@ -225,6 +242,23 @@ static struct block lengthen(unsigned long long seed)
     return block;
 }
 
+/* What the seeds reached on dual panels: pairs, and frames with a cursor in the upper and in the lower half. */
+static struct {
+    unsigned long long pairs, cursors[2];
+} halves;
+
+static void count_halves(long taken)
+{
+    struct second_registers r;
+    if (trial.panel.dual != 1 || second.painted)
+        return;
+    halves.pairs += (unsigned long long)taken;
+    from_bytes(second.registers, &r);
+    for (unsigned line = 0; line < trial.panel.lines && r.cursor_x < trial.panel.columns; line++)
+        if (second_cursor_covers(&trial.panel, &r, 8 * line + 7, r.cursor_x))
+            halves.cursors[2 * line >= trial.panel.lines]++;
+}
+
 /* Pairs taken out, many at once and then fewer, while the two still differ; a long log is not taken apart to the last pair. */
 static void shrink(unsigned long long seed)
 {
@@ -238,8 +272,8 @@ static void shrink(unsigned long long seed)
                 trial = kept;
         }
     (void)compare();
-    printf("differs at seed %llu: panel %u %u %u, limit %lu, answers %lu, log", seed, trial.panel.columns, trial.panel.lines,
-           trial.panel.width, trial.limit, trial.answers_length);
+    printf("differs at seed %llu: panel %u %u %u, marker %u, limit %lu, answers %lu, log", seed, trial.panel.columns, trial.panel.lines,
+           trial.panel.width, trial.panel.dual, trial.limit, trial.answers_length);
     for (unsigned long i = 0; i < trial.log_length && i < LOG; i++)
         printf(" %02X", trial.log[i]);
     if (trial.log_length > LOG)
@@ -270,14 +304,17 @@ int main(int count, char **words)
                 continue;
             }
             passed++;
+            count_halves(taken);
             *(again ? &more : &pairs) += (unsigned long long)taken;
             if (again && (unsigned long)taken > block.begin + block.pairs) {
                 longer += block.pairs > 65536;
                 wrapped += block.pointer + block.pairs > 65536;
             }
         }
-    printf("seeds %llu to %llu, %llu pairs; long logs: %llu pairs, %llu blocks of more than 65,536 bytes, %llu over the wrap\n", first, seed - 1,
-           pairs, more, longer, wrapped);
+    printf("seeds %llu to %llu, %llu pairs; long logs: %llu pairs, %llu blocks of more than 65,536 bytes, %llu over the wrap\n", first,
+           seed - 1, pairs, more, longer, wrapped);
+    printf("dual panels: %llu pairs, %llu frames with the cursor in the upper half, %llu in the lower\n", halves.pairs, halves.cursors[0],
+           halves.cursors[1]);
     printf("%llu passed, %llu failed\n", passed, failed);
     return failed != 0;
 }

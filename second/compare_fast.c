@@ -1,4 +1,5 @@
-/* fast.c beside second.c: logs and frames from random states and memories, everything compared; one line per kind, ok or not ok. */
+/* fast.c beside second.c: logs and frames from random states and memories, on dual panels half of the time, everything compared; one
+   line per kind, ok or not ok. */
 #include <stdio.h>
 #include <string.h>
 
@@ -7,7 +8,7 @@
 #include "second.h"
 #include "states.h"
 
-enum { PAIRS = 140000, ANSWERS = 300, FRAME = 8 * 16 * 80, GUARD = 64 };
+enum { PAIRS = 140000, ANSWERS = 300, FRAME = 8 * 32 * 80, GUARD = 64 };
 
 /* One side's buffers. */
 struct side {
@@ -69,9 +70,16 @@ static int same_runs(void)
     return same_frames();
 }
 
+static void random_lines(void)
+{
+    panel.dual = below(&generator, 2);
+    panel.lines = (1 + panel.dual) * (1 + below(&generator, 16));
+}
+
 static void random_panel(void)
 {
-    panel.columns = 1 + below(&generator, 80), panel.lines = 1 + below(&generator, 16), panel.width = below(&generator, 2) ? 6 : 8;
+    panel.columns = 1 + below(&generator, 80), panel.width = below(&generator, 2) ? 6 : 8;
+    random_lines();
 }
 
 static void put(unsigned kind, unsigned byte)
@@ -83,8 +91,9 @@ static void put(unsigned kind, unsigned byte)
 static int general(unsigned seed)
 {
     static unsigned char input[GENERATE_ROOM];
-    const unsigned long bytes = generate_input(seed, input);
+    unsigned long bytes;
     random_panel();
+    bytes = panel.dual ? generate_dual_input(seed, input) : generate_input(seed, input);
     length = bytes > 3 ? (bytes - 3) / 2 : 0;
     memcpy(pairs, input + 3, 2 * length);
     return same_runs();
@@ -144,7 +153,8 @@ static int long_block(unsigned seed) { return block(65500 + seed * 700UL); }
 /* Every number of columns at both widths. */
 static int frame(unsigned seed)
 {
-    panel.columns = 1 + seed % 80, panel.lines = 1 + below(&generator, 16), panel.width = seed / 80 % 2 ? 6 : 8;
+    panel.columns = 1 + seed % 80, panel.width = seed / 80 % 2 ? 6 : 8;
+    random_lines();
     begin();
     return same_frames();
 }

@@ -166,13 +166,25 @@ static void mix(const unsigned char *restrict text, const unsigned char *restric
     }
 }
 
+/* The line that the cursor's Y stands for; L or more where it stands for none. */
+static unsigned cursor_line(const struct second_panel *panel, unsigned y)
+{
+    const unsigned half = panel->lines / 2;
+    if (!panel->dual)
+        return y;
+    if (y >= 16)
+        return y - 16 + half;
+    return y < half ? y : panel->lines;
+}
+
 /* Over the finished frame, so that no row need ask for it. */
 static void paint_cursor(const struct second_panel *panel, const struct second_registers *r, unsigned length, unsigned char *frame)
 {
-    if (!r->cursor || (r->blink && r->phase == SECOND_PHASE_OFF) || r->cursor_x >= panel->columns || r->cursor_y >= panel->lines)
+    const unsigned line = cursor_line(panel, r->cursor_y);
+    if (!r->cursor || (r->blink && r->phase == SECOND_PHASE_OFF) || r->cursor_x >= panel->columns || line >= panel->lines)
         return;
     const unsigned first = r->cursor_x * panel->width, dots = (panel->width == 6 ? 0xfc00u : 0xff00u) >> first % 8;
-    unsigned char *at = frame + (8 * r->cursor_y + 8 - r->cursor_height) * length + first / 8;
+    unsigned char *at = frame + (8 * line + 8 - r->cursor_height) * length + first / 8;
     for (unsigned i = 0; i < r->cursor_height; i++, at += length) {
         at[0] |= (unsigned char)(dots >> 8);
         if (dots & 255)
@@ -267,7 +279,7 @@ static int copy(const struct second_panel *panel, const struct second_registers 
 {
     unsigned row, column;
     unsigned char bytes[ROW];
-    if (r->combination == SECOND_ATTRIBUTE || !position(panel, r, pointer, &row, &column))
+    if (panel->dual || r->combination == SECOND_ATTRIBUTE || !position(panel, r, pointer, &row, &column))
         return 0;
     for (unsigned i = column; i < panel->columns; i++)
         bytes[i] = (unsigned char)shown(panel, r, memory, rom, row, i);

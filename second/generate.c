@@ -25,7 +25,7 @@ struct writer {
     unsigned char *log;
     unsigned long length; /* bytes written */
     unsigned long wanted; /* bytes the log may grow to */
-    unsigned columns, lines;
+    unsigned columns, lines, dual;
     unsigned centre; /* most homes, glyphs and pointers lie near this address, so that areas overlap */
     unsigned offset, text_home, graphic_home, text_area, graphic_area;
 };
@@ -243,10 +243,18 @@ static void set_offset(struct writer *w)
     command2(w, w->offset + high, ignored, 0x22);
 }
 
+/* A Y of either half of a dual panel, or the one behind its last. */
+static unsigned dual_y(struct writer *w)
+{
+    unsigned first = 16 * below(w, 2);
+    unsigned behind = one_in(w, 4) ? 1 : 0;
+    return (first + below(w, w->lines / 2 + behind)) % 32;
+}
+
 static void set_cursor(struct writer *w)
 {
     unsigned x = one_in(w, 6) ? below(w, 128) : below(w, w->columns + 2) % 128;
-    unsigned y = one_in(w, 6) ? below(w, 32) : below(w, w->lines + 2) % 32;
+    unsigned y = one_in(w, 6) ? below(w, 32) : w->dual ? dual_y(w) : below(w, w->lines + 2) % 32;
     unsigned x_high = 128 * below(w, 2);
     unsigned y_high = 32 * below(w, 8);
     command2(w, x + x_high, y + y_high, 0x21);
@@ -656,6 +664,28 @@ static unsigned choose_centre(struct writer *w)
     }
 }
 
+static void choose_dual_panel(struct writer *w)
+{
+    switch (below(w, 16)) {
+    case 0:
+        w->columns = one_in(w, 3) ? 1 : 80;
+        w->lines = one_in(w, 3) ? 2 : 32;
+        break;
+    case 1:
+        w->columns = 1 + below(w, 80);
+        w->lines = 2 + 2 * below(w, 16);
+        break;
+    case 2: case 3: case 4:
+        w->columns = 1 + below(w, 20);
+        w->lines = 2 + 2 * below(w, 16);
+        break;
+    default:
+        w->columns = 1 + below(w, 6);
+        w->lines = 2 + 2 * below(w, 3);
+        break;
+    }
+}
+
 static void choose_panel(struct writer *w)
 {
     switch (below(w, 16)) {
@@ -739,11 +769,13 @@ static void spoil_panel(struct writer *w, unsigned char *panel)
     static const unsigned char wrong[3][6] = {
         {0, 81, 81, 82, 144, 255}, {0, 17, 17, 18, 129, 255}, {0, 5, 7, 9, 16, 136}
     };
+    static const unsigned char wrong_dual_lines[6] = {0, 1, 17, 31, 33, 34};
     unsigned which = below(w, 3);
-    panel[which] = wrong[which][below(w, 6)];
+    unsigned value = below(w, 6);
+    panel[which] = w->dual && which == 1 ? wrong_dual_lines[value] : wrong[which][value];
 }
 
-unsigned long generate_input(unsigned long long seed, unsigned char *buffer)
+static unsigned long make_input(unsigned long long seed, unsigned dual, unsigned char *buffer)
 {
     struct writer writer;
     struct writer *w = &writer;
@@ -755,7 +787,9 @@ unsigned long generate_input(unsigned long long seed, unsigned char *buffer)
     w->graphic_home = 0;
     w->text_area = 0;
     w->graphic_area = 0;
-    choose_panel(w);
+    w->dual = dual;
+    if (dual) choose_dual_panel(w);
+    else choose_panel(w);
     w->centre = choose_centre(w);
     buffer[0] = (unsigned char)w->columns;
     buffer[1] = (unsigned char)w->lines;
@@ -778,4 +812,14 @@ unsigned long generate_input(unsigned long long seed, unsigned char *buffer)
         w->length++;
     }
     return 3 + w->length;
+}
+
+unsigned long generate_input(unsigned long long seed, unsigned char *buffer)
+{
+    return make_input(seed, 0, buffer);
+}
+
+unsigned long generate_dual_input(unsigned long long seed, unsigned char *buffer)
+{
+    return make_input(seed, 1, buffer);
 }

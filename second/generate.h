@@ -19,4 +19,7 @@ unsigned generate_below(struct generate_random *random, unsigned bound);
 /* Fills the start of a buffer of GENERATE_ROOM bytes with C, L, w and log bytes; returns their number. */
 unsigned long generate_input(unsigned long long seed, unsigned char *buffer);
 
+/* The same for a dual panel; L is then even, 2 to 32. The marker itself stands nowhere in the buffer. */
+unsigned long generate_dual_input(unsigned long long seed, unsigned char *buffer);
+
 #endif

@@ -20,7 +20,7 @@ struct maker {
     struct generate_random random;
     unsigned char *book;
     unsigned long length; /* bytes written */
-    unsigned columns, lines, width;
+    unsigned columns, lines, width, dual;
     unsigned screens, asked;
     unsigned long begin[MOST_SCREENS + 4], end[MOST_SCREENS + 4]; /* of each body; some books have too many */
     unsigned long pairs; /* of the body being written */
@@ -113,6 +113,7 @@ static void rectangle(struct maker *m)
     unsigned column = spot(m, m->columns);
     unsigned height = m->pairs > MANY_PAIRS ? 1 : reach(m, 8 * m->lines - top);
     unsigned width = reach(m, m->columns - column);
+    if (height > 255) height = 255; /* all that one byte holds of 256 rows */
     byte(m, 2);
     byte(m, top);
     byte(m, column);
@@ -205,15 +206,19 @@ static void out_of_range_text(struct maker *m)
 static void out_of_range_rectangle(struct maker *m)
 {
     unsigned char *operation = m->book + m->length;
+    unsigned rows = 8 * m->lines;
     rectangle(m);
     switch (below(m, 5)) {
     case 0: operation[3] = 0; break;
     case 1: operation[4] = 0; break;
-    case 2: operation[3] = (unsigned char)(8 * m->lines + 1 - operation[1]); break;
+    case 2:
+        if (rows - operation[1] > 254) operation[1] = 2; /* else one row more is past what a byte holds */
+        operation[3] = (unsigned char)(rows + 1 - operation[1]);
+        break;
     case 3: operation[4] = (unsigned char)(m->columns + 1 - operation[2]); break;
     default:
-        /* Sums of 256 and more, which one byte does not hold. */
-        if (one_in(m, 2)) operation[1] = (unsigned char)(256 - operation[3]);
+        /* Sums of 256 and more, which one byte does not hold; 256 rows may be all there. */
+        if (one_in(m, 2) && rows < 256) operation[1] = (unsigned char)(256 - operation[3]);
         else operation[2] = (unsigned char)(256 - operation[4]);
         break;
     }
@@ -223,8 +228,11 @@ static void out_of_range_dot(struct maker *m)
 {
     unsigned char *operation = m->book + m->length;
     unsigned x = m->columns * m->width;
+    unsigned which;
     dot(m);
-    switch (below(m, 4)) {
+    which = below(m, 4);
+    if (which == 2 && m->lines == 32) which = 3; /* with 256 rows every y is in range */
+    switch (which) {
     case 0:
         operation[1] = (unsigned char)(x % 256);
         operation[2] = (unsigned char)(x / 256);
@@ -461,6 +469,29 @@ static unsigned long damage_contents(struct maker *m, unsigned damage)
 
 /* The whole input. */
 
+static void choose_dual_panel(struct maker *m)
+{
+    switch (below(m, 16)) {
+    case 0:
+        m->columns = one_in(m, 3) ? 1 : 80;
+        m->lines = one_in(m, 3) ? 2 : 32;
+        break;
+    case 1:
+        m->columns = 1 + below(m, 80);
+        m->lines = 2 + 2 * below(m, 16);
+        break;
+    case 2: case 3: case 4:
+        m->columns = 1 + below(m, 12);
+        m->lines = 2 + 2 * below(m, 16);
+        break;
+    default:
+        m->columns = 1 + below(m, 6);
+        m->lines = 2 + 2 * below(m, 3);
+        break;
+    }
+    m->width = one_in(m, 2) ? 6 : 8;
+}
+
 static void choose_panel(struct maker *m)
 {
     switch (below(m, 16)) {
@@ -497,8 +528,10 @@ static unsigned choose_screens(struct maker *m)
 static void spoil_panel(struct maker *m, unsigned char *panel)
 {
     static const unsigned char wrong[3][4] = {{0, 81, 144, 255}, {0, 17, 129, 255}, {0, 7, 9, 136}};
+    static const unsigned char wrong_dual_lines[4] = {0, 17, 33, 34};
     unsigned which = below(m, 3);
-    panel[which] = wrong[which][below(m, 4)];
+    unsigned value = below(m, 4);
+    panel[which] = m->dual && which == 1 ? wrong_dual_lines[value] : wrong[which][value];
 }
 
 /* Fewer bytes than the head has; every missing one counts as 0. */
@@ -510,7 +543,7 @@ static struct generate_book_reply short_input(struct maker *m)
     return reply;
 }
 
-struct generate_book_reply generate_book(unsigned long long seed, unsigned char *buffer)
+static struct generate_book_reply make_book(unsigned long long seed, unsigned dual, unsigned char *buffer)
 {
     struct generate_book_reply reply = {0, 0, 0, 0};
     struct maker maker;
@@ -520,7 +553,9 @@ struct generate_book_reply generate_book(unsigned long long seed, unsigned char 
     unsigned long full = 0, contents_place, operation_place;
     m->random.word = seed;
     m->book = buffer + GENERATE_BOOK_HEAD;
-    choose_panel(m);
+    m->dual = dual;
+    if (dual) choose_dual_panel(m);
+    else choose_panel(m);
     m->screens = choose_screens(m);
     buffer[0] = (unsigned char)m->columns;
     buffer[1] = (unsigned char)m->lines;
@@ -563,4 +598,14 @@ struct generate_book_reply generate_book(unsigned long long seed, unsigned char 
         reply.pairs = 1057 + 9UL * m->columns * m->lines + m->pairs;
     }
     return reply;
+}
+
+struct generate_book_reply generate_book(unsigned long long seed, unsigned char *buffer)
+{
+    return make_book(seed, 0, buffer);
+}
+
+struct generate_book_reply generate_dual_book(unsigned long long seed, unsigned char *buffer)
+{
+    return make_book(seed, 1, buffer);
 }

@@ -18,4 +18,7 @@ struct generate_book_reply {
 /* Fills the start of a buffer of GENERATE_BOOK_ROOM bytes with C, L, w, a screen's number and a book. */
 struct generate_book_reply generate_book(unsigned long long seed, unsigned char *buffer);
 
+/* The same for a dual panel; L is then even, 2 to 32. The marker itself stands nowhere in the buffer. */
+struct generate_book_reply generate_dual_book(unsigned long long seed, unsigned char *buffer);
+
 #endif

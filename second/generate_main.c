@@ -1,4 +1,4 @@
-/* generate [log|write|normal|off] SEED: the input of that seed for a program, on standard output. */
+/* generate [dual] [log|write|normal|off] SEED: the input of that seed for a program, on standard output. */
 #include <errno.h>
 #include <stdio.h>
 #include <stdlib.h>
@@ -9,8 +9,9 @@
 
 static int usage(void)
 {
-    fputs("usage: generate [log|write|normal|off] SEED (a number from 0 to 18446744073709551615)\n"
-          "  an input for log, for write, or for picture in phase normal or off; for log if none is named\n", stderr);
+    fputs("usage: generate [dual] [log|write|normal|off] SEED (a number from 0 to 18446744073709551615)\n"
+          "  an input for log, for write, or for picture in phase normal or off; for log if none is named;\n"
+          "  with dual for a panel in two halves, of which the program must be told\n", stderr);
     return 2;
 }
 
@@ -27,9 +28,17 @@ int main(int argc, char **argv)
 {
     static unsigned char buffer[GENERATE_BOOK_ROOM + 1]; /* the phase too; a log needs less */
     const char *kind = "log", *number;
+    unsigned long (*make_log)(unsigned long long seed, unsigned char *buffer) = generate_input;
+    struct generate_book_reply (*make_book)(unsigned long long seed, unsigned char *buffer) = generate_book;
     unsigned long long seed;
     unsigned long length;
     char *end;
+    if (argc > 1 && strcmp(argv[1], "dual") == 0) {
+        make_log = generate_dual_input;
+        make_book = generate_dual_book;
+        argc--;
+        argv++;
+    }
     if (argc != 2 && argc != 3) return usage();
     if (argc == 3) kind = argv[1];
     number = argv[argc - 1];
@@ -40,10 +49,10 @@ int main(int argc, char **argv)
         fprintf(stderr, "generate: %s is no seed from 0 to 18446744073709551615\n", number);
         return 2;
     }
-    if (strcmp(kind, "log") == 0) length = generate_input(seed, buffer);
-    else if (strcmp(kind, "write") == 0) length = generate_book(seed, buffer).length;
-    else if (strcmp(kind, "normal") == 0) length = insert_phase(buffer, generate_book(seed, buffer).length, 1);
-    else if (strcmp(kind, "off") == 0) length = insert_phase(buffer, generate_book(seed, buffer).length, 0);
+    if (strcmp(kind, "log") == 0) length = make_log(seed, buffer);
+    else if (strcmp(kind, "write") == 0) length = make_book(seed, buffer).length;
+    else if (strcmp(kind, "normal") == 0) length = insert_phase(buffer, make_book(seed, buffer).length, 1);
+    else if (strcmp(kind, "off") == 0) length = insert_phase(buffer, make_book(seed, buffer).length, 0);
     else return usage();
     if (fwrite(buffer, 1, length, stdout) != length || fflush(stdout) != 0) {
         fputs("generate: standard output cannot be written\n", stderr);

@@ -8,7 +8,7 @@
 
 static unsigned char memory[SECOND_MEMORY_LENGTH], before[SECOND_MEMORY_LENGTH];
 static unsigned char rom[SECOND_ROM_LENGTH];
-static struct second_panel panel = {2, 1, 8};
+static struct second_panel panel = {2, 1, 8, 0};
 static struct second_registers registers;
 
 static struct second_layers_reply show(unsigned row, unsigned column)
@@ -82,7 +82,7 @@ static void by_hand(void)
 
 static void refusals(void)
 {
-    const struct second_panel bad = {0, 1, 8};
+    const struct second_panel bad = {0, 1, 8, 0};
     struct second_registers invalid;
     struct second_layers_reply reply;
     unsigned i;

@@ -1,5 +1,5 @@
 /* The layers program: C, L, w, row, column, log in; the log program's first line, then text, graphic and what comes of them out. Column
-   255 asks for every row of the frame. */
+   255 asks for every row of the frame. With an argument the panel is in two halves. */
 #include <stdio.h>
 
 #include "second.h"
@@ -22,7 +22,7 @@ static void print_cell(unsigned row, unsigned column, unsigned layer)
     for (bit = panel.width; bit > 0; bit--) putchar((byte >> (bit - 1)) & 1 ? '#' : '.');
 }
 
-int main(void)
+int main(int argc, char **argv)
 {
     static const char *const names[] = {"text", "graphic", "shown"};
     static unsigned char input[HEAD_BYTES + LOG_LIMIT], answers[ANSWER_ROOM]; /* zero: a missing byte counts as 0 */
@@ -34,6 +34,8 @@ int main(void)
     panel.columns = input[0];
     panel.lines = input[1];
     panel.width = input[2];
+    panel.dual = argc > 1;
+    (void)argv;
     for (code = 0; code < 128; code++) {
         for (v = 0; v < 8; v++) rom[8 * code + v] = (unsigned char)((code + v) % 256);
     }

@@ -1,4 +1,5 @@
-/* The list program: a character ROM and a log of any length in; a line for each pair out: place, kind, byte, number and words. */
+/* The list program: a character ROM and a log of any length in; a line for each pair out: place, kind, byte, number and words. With an
+   argument the panel is in two halves. */
 #include <stdio.h>
 
 #include "second.h"
@@ -49,7 +50,7 @@ static void print_command(unsigned code, const struct second_registers *register
     }
 }
 
-int main(void)
+int main(int argc, char **argv)
 {
     static unsigned char memory[SECOND_MEMORY_LENGTH];
     static unsigned char rom[SECOND_ROM_LENGTH];
@@ -67,6 +68,8 @@ int main(void)
     panel.columns = head[0];
     panel.lines = head[1];
     panel.width = head[2];
+    panel.dual = argc > 1;
+    (void)argv;
     second_reset(&registers);
     while (second_panel_valid(&panel) && fread(pair, 1, 2, stdin) == 2) {
         struct second_reply reply = second_access(&panel, &registers, memory, SECOND_MEMORY_LENGTH, rom, SECOND_ROM_LENGTH,

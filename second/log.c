@@ -31,6 +31,7 @@ int main(void)
     panel.columns = input[0];
     panel.lines = input[1];
     panel.width = input[2];
+    panel.dual = 0; /* the input knows single scan only */
     for (code = 0; code < 128; code++) {
         for (v = 0; v < 8; v++) rom[8 * code + v] = (unsigned char)((code + v) % 256);
     }

@@ -1,15 +1,16 @@
-/* picture: C, L, w, a screen's number, the phase and a book in; number, place and the screen's dots out. */
+/* picture: C, L, w, a screen's number, the phase and a book in; number, place and the screen's dots out. With an argument the panel is
+   in two halves. */
 #include <stdio.h>
 
 #include "dots.h"
 #include "screens.h"
 
 #define HEAD 5
-#define GRAPHIC_ROOM 10240 /* 80 * 8 * 16 bytes, the largest graphic plane */
-#define TEXT_ROOM 1280     /* 80 * 16 codes, the largest text plane */
-#define FRAME_ROOM 10240   /* 8 * 16 * 80 bytes, the largest frame */
+#define GRAPHIC_ROOM 20480 /* 80 * 8 * 32 bytes, the largest graphic plane */
+#define TEXT_ROOM 2560     /* 80 * 32 codes, the largest text plane */
+#define FRAME_ROOM 20480   /* 8 * 32 * 80 bytes, the largest frame */
 
-int main(void)
+int main(int argc, char **argv)
 {
     /* Zero: a missing byte counts as 0. One byte past the limit shows that a book is too long. */
     static unsigned char input[HEAD + SECOND_BOOK_LIMIT + 1];
@@ -30,6 +31,8 @@ int main(void)
     panel.columns = input[0];
     panel.lines = input[1];
     panel.width = input[2];
+    panel.dual = argc > 1;
+    (void)argv;
     for (code = 0; code < 128; code++) {
         for (v = 0; v < 8; v++) rom[8 * code + v] = (unsigned char)((code + v) % 256);
     }

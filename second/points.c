@@ -8,7 +8,7 @@
 
 static unsigned char memory[SECOND_MEMORY_LENGTH + 1], before_memory[SECOND_MEMORY_LENGTH + 1];
 static unsigned char rom[SECOND_ROM_LENGTH + 1];
-static const struct second_panel panel_1_1_8 = {1, 1, 8};
+static const struct second_panel panel_1_1_8 = {1, 1, 8, 0};
 
 static int same(const struct second_registers *a, const struct second_registers *b)
 {
@@ -35,22 +35,31 @@ static void reset_state(void)
 static void valid_panels(void)
 {
     struct second_panel panel;
-    unsigned long valid = 0;
+    unsigned long valid[2] = {0, 0}, wrong = 0;
     for (panel.columns = 0; panel.columns < 300; panel.columns++) {
         for (panel.lines = 0; panel.lines < 300; panel.lines++) {
             for (panel.width = 0; panel.width < 20; panel.width++) {
-                int expected = panel.columns >= 1 && panel.columns <= 80 && panel.lines >= 1 && panel.lines <= 16
-                               && (panel.width == 6 || panel.width == 8);
-                if (second_panel_valid(&panel) != expected) valid += 1000000;
-                if (second_panel_valid(&panel)) valid++;
+                int expected = panel.columns >= 1 && panel.columns <= 80 && (panel.width == 6 || panel.width == 8);
+                for (panel.dual = 0; panel.dual < 2; panel.dual++) {
+                    int lines = panel.dual ? panel.lines >= 2 && panel.lines <= 32 && panel.lines % 2 == 0
+                                           : panel.lines >= 1 && panel.lines <= 16;
+                    if (second_panel_valid(&panel) != (expected && lines)) wrong++;
+                    if (second_panel_valid(&panel)) valid[panel.dual]++;
+                }
+                panel.dual = 2;
+                if (second_panel_valid(&panel)) wrong++;
             }
         }
     }
-    point("valid panels", valid == 80UL * 16 * 2);
+    point("valid panels", wrong == 0 && valid[0] == 80UL * 16 * 2 && valid[1] == 80UL * 16 * 2);
     panel.columns = 257;
-    panel.lines = 1;
+    panel.lines = 2;
     panel.width = 8;
+    panel.dual = 0;
     point("C 257 is not taken for 1", !second_panel_valid(&panel));
+    panel.columns = 1;
+    panel.dual = UINT_MAX;
+    point("a marker but 0 and 1 is not valid", !second_panel_valid(&panel));
 }
 
 /* Sets one field of a reset state, found by its place in the record. */
@@ -166,7 +175,7 @@ static void pending_data(void)
 static void fixed_lengths(void)
 {
     static const unsigned char log[3] = {SECOND_COMMAND, 0x94, SECOND_STATUS_READ};
-    const struct second_panel bad = {0, 1, 8};
+    const struct second_panel bad = {0, 1, 8, 0};
     struct second_registers registers, before, invalid;
     unsigned char answers[2], frame[9];
     struct second_reply reply;
@@ -290,7 +299,7 @@ static void single_access(void)
 
 static void frame_packing(void)
 {
-    const struct second_panel panel = {3, 2, 6};
+    const struct second_panel panel = {3, 2, 6, 0};
     struct second_registers registers;
     unsigned char frame[48];
     unsigned place;
@@ -321,7 +330,7 @@ static void attribute_codes(void)
         {NORMAL, 0}, {NORMAL, 0}, {NORMAL, 0}, {INHIBIT, 0}, {NORMAL, 0}, {REVERSE, 0}, {NORMAL, 0}, {NORMAL, 0},
         {NORMAL, 1}, {NORMAL, 1}, {NORMAL, 1}, {INHIBIT, 1}, {NORMAL, 1}, {REVERSE, 1}, {NORMAL, 1}, {NORMAL, 1}
     };
-    struct second_panel panel = {1, 1, 8};
+    struct second_panel panel = {1, 1, 8, 0};
     struct second_registers registers;
     unsigned attribute, row, wrong = 0;
     second_reset(&registers);

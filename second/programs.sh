@@ -4,6 +4,8 @@ root=$(dirname "$here")
 . "$root/tools/kit.sh"
 passed=0
 failed=0
+# the word `dual` where the panels are in two halves: generators, proved and second programs are all told
+dual=
 
 # counted: the last line
 counted() {
@@ -37,11 +39,32 @@ built() {
     [ -x "$root/target/bin/$1" ] || fail "target/bin/$1 is missing: 'rt check $1' builds it"
 }
 
+# run_proved PROGRAM: on $work/in, with the marker. The programs that have a ROM of their own know it only behind `rom`.
+run_proved() {
+    case $dual:$1 in
+    dual:draw | dual:rehearse | dual:layers)
+        cat "$root/tests/bench.rom" "$work/in" >"$work/lent"
+        run "$1" rom dual <"$work/lent"
+        ;;
+    *) run "$1" ${dual:+dual} <"$work/in" ;;
+    esac
+}
+
+# run_second PROGRAM: the same
+run_second() {
+    "$work/$1" ${dual:+dual} <"$work/in"
+}
+
+# generate_in KIND SEED FILE: the random input of a seed
+generate_in() {
+    "$work/generate" ${dual:+dual} "$1" "$2" >"$3" || fail "generate ${dual:+dual }$1 $2"
+}
+
 # same WHAT PROVED SECOND: both say the same of $work/in, on standard output and on standard error, and the proved one reports the number
 # that is in it
 same() {
-    run "$2" <"$work/in" >"$work/proved.out" 2>"$work/proved.err" 3>"$work/proved.report"
-    "$work/$3" <"$work/in" >"$work/second.out" 2>"$work/second.err"
+    run_proved "$2" >"$work/proved.out" 2>"$work/proved.err" 3>"$work/proved.report"
+    run_second "$3" >"$work/second.out" 2>"$work/second.err"
     cat "$work/second.out" "$work/second.err" | sed -n 's/^.*refusal \([0-9]*\) place .*$/\1/p' >"$work/second.report"
     [ -s "$work/second.report" ] || echo 0 >"$work/second.report"
     if cmp -s "$work/proved.out" "$work/second.out" && cmp -s "$work/proved.err" "$work/second.err" &&
@@ -70,8 +93,8 @@ same_cases() {
 same_random() {
     seed=1
     while [ "$seed" -le "$4" ]; do
-        "$work/generate" "$3" "$seed" >"$work/in" || fail "generate $3 $seed"
-        same "$3 $seed" "$1" "$2"
+        generate_in "$3" "$seed" "$work/in"
+        same "${dual:+dual }$3 $seed" "$1" "$2"
         seed=$((seed + 1))
     done
 }

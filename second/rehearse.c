@@ -1,4 +1,5 @@
-/* rehearse SEEDS: the books of seeds 1 to SEEDS written, run on the controller and drawn; ok or not ok per property. */
+/* rehearse SEEDS: the books of seeds 1 to SEEDS written, run on the controller and drawn; every seed gives one for a single
+   and one for a dual panel. One line per property, ok or not ok. */
 #include <limits.h>
 #include <stdio.h>
 #include <stdlib.h>
@@ -12,18 +13,20 @@
 
 static unsigned char input[GENERATE_BOOK_ROOM], again[GENERATE_BOOK_ROOM];
 static unsigned char memory[SECOND_MEMORY_LENGTH], before[SECOND_MEMORY_LENGTH];
-static unsigned char last_frame[10240]; /* 8 * 16 * 80, the largest frame */
+static unsigned char last_frame[20480]; /* 8 * 32 * 80, the largest frame */
 
 /* Each lent piece is allocated at its exact length, so that a sanitizer sees the first byte past it. */
 static struct {
     struct second_panel panel;
     unsigned char *book, *rom, *graphic, *text, *glyphs, *frame, *machine_frame;
     unsigned long book_length, screen, graphic_length, text_length, frame_length;
+    unsigned long text_home; /* as document 01 and Req 08 give it */
 } lent;
 
 static struct {
     unsigned long numbers[14], place_0, later_entry, widths[9], operations[7];
     unsigned long large, empty, limit, too_long, many_screens, short_inputs, large_streams, phases_differ, order_shows;
+    unsigned long books, dual, dual_large, cursor_rows[2]; /* rows in the upper and lower half that a cursor covers */
 } seen;
 
 static struct {
@@ -69,9 +72,11 @@ static void fill(struct generate_random *random, unsigned char *bytes, unsigned 
 }
 
 /* The input as the programs take it apart; lengths of no use with a bad panel are short. */
-static void lend_all(struct generate_random *random, unsigned long length)
+static void lend_all(struct generate_random *random, unsigned long length, unsigned dual)
 {
     int valid;
+    lent.panel.dual = dual;
+    lent.text_home = dual ? 0x8000 : 0x4000;
     lent.panel.columns = input[0];
     lent.panel.lines = input[1];
     lent.panel.width = input[2];
@@ -145,8 +150,19 @@ static void draw_registers(struct generate_random *random, struct second_registe
 static int inside_areas(unsigned long address)
 {
     if (address < lent.graphic_length) return 1;
-    if (address >= 0x4000 && address < 0x4000 + lent.text_length) return 1;
+    if (address >= lent.text_home && address < lent.text_home + lent.text_length) return 1;
     return address >= 0xFC00;
+}
+
+/* The halves of dual panels that show a cursor. */
+static void count_cursor(const struct second_registers *registers)
+{
+    unsigned row;
+    if (!lent.panel.dual || !registers->cursor) return;
+    for (row = 0; row < 8 * lent.panel.lines; row++) {
+        int covered = second_cursor_covers(&lent.panel, registers, row, registers->cursor_x);
+        if (covered) seen.cursor_rows[row < 4 * lent.panel.lines ? 0 : 1]++;
+    }
 }
 
 static void rehearse_run(struct generate_random *random, unsigned long long seed,
@@ -173,12 +189,13 @@ static void rehearse_run(struct generate_random *random, unsigned long long seed
         expect(&holds.frames, memcmp(lent.frame, lent.machine_frame, lent.frame_length) == 0, seed,
                "the machine shows another frame than the picture");
         expect(&holds.planes, memcmp(lent.graphic, memory, lent.graphic_length) == 0
-                              && memcmp(lent.text, memory + 0x4000, lent.text_length) == 0
+                              && memcmp(lent.text, memory + lent.text_home, lent.text_length) == 0
                               && memcmp(lent.glyphs, memory + 0xFC00, SECOND_GLYPHS_LENGTH) == 0, seed,
                "an area holds other bytes than its plane");
         if (normal && memcmp(lent.frame, last_frame, lent.frame_length) != 0) seen.phases_differ++;
         memcpy(last_frame, lent.frame, lent.frame_length);
     }
+    count_cursor(&registers);
     for (address = 0; address < SECOND_MEMORY_LENGTH; address++) {
         if (inside_areas(address)) continue;
         expect(&holds.outside, memory[address] == before[address], seed, "a byte outside the areas is changed");
@@ -224,7 +241,9 @@ static void rehearse_right(struct generate_random *random, unsigned long long se
     draw(1);
     if (memcmp(lent.frame, last_frame, lent.frame_length) != 0) seen.order_shows++;
     seen.widths[lent.panel.width]++;
-    if (lent.panel.columns == 80 && lent.panel.lines == 16) seen.large++;
+    if (lent.panel.columns == 80 && lent.panel.lines == 16 && !lent.panel.dual) seen.large++;
+    if (lent.panel.columns == 80 && lent.panel.lines == 32) seen.dual_large++;
+    if (lent.panel.dual) seen.dual++;
     if (length == 0) seen.empty++;
     if (lent.book_length == GENERATE_BOOK_LIMIT) seen.limit++;
     if (lent.book[0] == 64) seen.many_screens++;
@@ -261,12 +280,13 @@ static void rehearse_damaged(unsigned long long seed, unsigned number, unsigned 
     if (lent.book_length > GENERATE_BOOK_LIMIT) seen.too_long++;
 }
 
-static void rehearse(unsigned long long seed)
+static void rehearse(unsigned long long seed, unsigned dual)
 {
     struct generate_book_reply made, repeated;
     struct generate_random random;
-    made = generate_book(seed, input);
-    repeated = generate_book(seed, again);
+    made = dual ? generate_dual_book(seed, input) : generate_book(seed, input);
+    repeated = dual ? generate_dual_book(seed, again) : generate_book(seed, again);
+    seen.books++;
     expect(&holds.repeats, repeated.length == made.length && memcmp(input, again, made.length) == 0, seed,
            "other bytes the second time");
     if (made.length < GENERATE_BOOK_HEAD) {
@@ -274,7 +294,7 @@ static void rehearse(unsigned long long seed)
         memset(input + made.length, 0, GENERATE_BOOK_HEAD - made.length); /* a missing byte counts as 0 */
     }
     random.word = ~seed;
-    lend_all(&random, made.length);
+    lend_all(&random, made.length, dual);
     seen.numbers[made.number]++;
     if (made.number == 0) rehearse_right(&random, seed, made.pairs);
     else rehearse_damaged(seed, made.number, made.place);
@@ -285,13 +305,16 @@ int main(int argc, char **argv)
 {
     unsigned long long seed, seeds = argc == 2 ? strtoull(argv[1], NULL, 10) : 1000;
     unsigned code, operations = 0;
-    for (seed = 1; seed <= seeds; seed++) rehearse(seed);
+    for (seed = 1; seed <= seeds; seed++) {
+        rehearse(seed, 0);
+        rehearse(seed, 1);
+    }
     for (code = 1; code <= 6; code++) {
         if (seen.operations[code] > seeds) operations++;
     }
 
-    printf("# %llu seeds: %lu right, refused by 1 %lu, by 9 %lu, by 10 %lu, by 11 %lu\n", seeds, seen.numbers[0],
-           seen.numbers[1], seen.numbers[9], seen.numbers[10], seen.numbers[11]);
+    printf("# %llu seeds, %lu books: %lu right, refused by 1 %lu, by 9 %lu, by 10 %lu, by 11 %lu\n", seeds, seen.books,
+           seen.numbers[0], seen.numbers[1], seen.numbers[9], seen.numbers[10], seen.numbers[11]);
     printf("# order shows in %lu, phases differ in %lu, streams past the log limit %lu, empty bodies %lu\n",
            seen.order_shows, seen.phases_differ, seen.large_streams, seen.empty);
     property("same seed, same bytes", holds.repeats);
@@ -303,7 +326,8 @@ int main(int argc, char **argv)
     property("the machine then shows the picture, in both phases", holds.frames);
     property("the three areas hold the picture's planes", holds.planes);
     property("memory outside the three areas is unchanged", holds.outside);
-    property("about half of the books are right", 5 * seen.numbers[0] > 2 * seeds && 5 * seen.numbers[0] < 3 * seeds);
+    property("about half of the books are right",
+             5 * seen.numbers[0] > 2 * seen.books && 5 * seen.numbers[0] < 3 * seen.books);
     property("refusals 1, 9, 10 and 11 occur", seen.numbers[1] > 0 && seen.numbers[9] > seeds / 10
                                                && seen.numbers[10] > seeds / 50 && seen.numbers[11] > seeds / 10);
     property("refusal 9 with place 0 and at a later entry", seen.place_0 > seeds / 50 && seen.later_entry > seeds / 50);
@@ -314,6 +338,8 @@ int main(int argc, char **argv)
              seen.widths[6] > seeds / 8 && seen.widths[8] > seeds / 8 && seen.large > 0 && seen.empty > seeds / 50);
     property("streams longer than the log program's limit, and mostly shorter ones",
              seen.large_streams > 0 && 2 * seen.large_streams < seen.numbers[0]);
+    property("right books for dual panels, also the full one", seen.dual > seeds / 3 && seen.dual_large > 0);
+    property("cursors in both halves", seen.cursor_rows[0] > seeds / 50 && seen.cursor_rows[1] > seeds / 50);
     property("pictures that differ between the phases", seen.phases_differ > seeds / 50);
     property("pictures that show the operations' order", seen.order_shows > seeds / 8);
     return 0;

@@ -1,4 +1,5 @@
-/* The replay program: a character ROM and a log of any length in; answers, the run's line and the frame out. */
+/* The replay program: a character ROM and a log of any length in; answers, the run's line and the frame out. With an argument the panel
+   is in two halves. */
 #include <stdio.h>
 #include <stdlib.h>
 
@@ -6,7 +7,7 @@
 #include "second.h"
 
 #define PANEL_BYTES 3UL
-#define FRAME_ROOM 10240 /* 8 * 16 * 80, the largest frame */
+#define FRAME_ROOM 20480 /* 8 * 32 * 80, the largest frame */
 
 /* All of standard input behind what was read, with its length; NULL where it can't be read or held. */
 static unsigned char *rest(unsigned long *length)
@@ -24,7 +25,7 @@ static unsigned char *rest(unsigned long *length)
     return NULL;
 }
 
-int main(void)
+int main(int argc, char **argv)
 {
     static unsigned char memory[SECOND_MEMORY_LENGTH];
     static unsigned char rom[SECOND_ROM_LENGTH];
@@ -48,6 +49,8 @@ int main(void)
     panel.columns = length > 0 ? input[0] : 0;
     panel.lines = length > 1 ? input[1] : 0;
     panel.width = length > 2 ? input[2] : 0;
+    panel.dual = argc > 1;
+    (void)argv;
     second_reset(&registers);
 
     reply = second_run(&panel, &registers, memory, SECOND_MEMORY_LENGTH, rom, SECOND_ROM_LENGTH,

@@ -13,7 +13,7 @@ static unsigned char book[SECOND_BOOK_LIMIT + 1];
 static unsigned char room[ROOM];
 static unsigned char rom[SECOND_ROM_LENGTH + 1];
 static unsigned char graphic[49], text[7], glyphs[SECOND_GLYPHS_LENGTH + 1], frame[49];
-static const struct second_panel panel_3_2_6 = {3, 2, 6}; /* planes of 48 and 6 bytes, a frame of 48 */
+static const struct second_panel panel_3_2_6 = {3, 2, 6, 0}; /* planes of 48 and 6 bytes, a frame of 48 */
 static const unsigned long opening_3_2 = 1057 + 9 * 3 * 2;
 
 static int all(const unsigned char *bytes, unsigned long length, unsigned char value)
@@ -303,11 +303,14 @@ static void no_room(void)
 
 static void panels(void)
 {
-    static const struct second_panel bad[6] = {{0, 2, 6}, {81, 2, 6}, {3, 0, 6}, {3, 17, 6}, {3, 2, 0}, {3, 2, 7}};
+    static const struct second_panel bad[10] = {
+        {0, 2, 6, 0}, {81, 2, 6, 0}, {3, 0, 6, 0}, {3, 17, 6, 0}, {3, 2, 0, 0}, {3, 2, 7, 0},
+        {3, 0, 6, 1}, {3, 3, 6, 1}, {3, 34, 6, 1}, {3, 2, 6, 2}
+    };
     unsigned i;
     int holds = 1;
     touch_nothing();
-    for (i = 0; i < 6; i++) {
+    for (i = 0; i < 10; i++) {
         struct second_write_reply written = second_write(&bad[i], book, 0, 9, room, 0);
         struct second_picture_reply drawn = draw(&bad[i], 0, 9, 0, 0, 0, 0, 0);
         if (written.number != 1 || written.place != 0 || written.pairs != 0) holds = 0;

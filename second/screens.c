@@ -1,6 +1,5 @@
 #include "screens.h"
 
-#define TEXT_HOME 0x4000UL
 #define GRAPHIC_HOME 0x0000UL
 #define GLYPHS_START 0xFC00UL
 #define GLYPHS_OFFSET 0x1F
@@ -210,6 +209,12 @@ static void store_value(struct stream *stream, unsigned long address, unsigned v
     command(stream, 0xB2);
 }
 
+/* The graphic bytes of a dual panel may reach past 4000H. */
+static unsigned long text_home(const struct second_panel *panel)
+{
+    return panel->dual ? 0x8000 : 0x4000;
+}
+
 static unsigned long opening_pairs(const struct second_panel *panel)
 {
     return 1057 + 9UL * panel->columns * panel->lines;
@@ -218,7 +223,7 @@ static unsigned long opening_pairs(const struct second_panel *panel)
 static void write_opening(struct stream *stream, const struct second_panel *panel)
 {
     command(stream, 0xB2);
-    command_with_address(stream, TEXT_HOME, 0x40);
+    command_with_address(stream, text_home(panel), 0x40);
     command_with(stream, panel->columns, 0, 0x41);
     command_with_address(stream, GRAPHIC_HOME, 0x42);
     command_with(stream, panel->columns, 0, 0x43);
@@ -226,7 +231,7 @@ static void write_opening(struct stream *stream, const struct second_panel *pane
     command(stream, 0x80);
     command(stream, 0x9C);
     store_value(stream, GRAPHIC_HOME, 0, second_graphic_length(panel));
-    store_value(stream, TEXT_HOME, 0, second_text_length(panel));
+    store_value(stream, text_home(panel), 0, second_text_length(panel));
     store_value(stream, GLYPHS_START, 0, SECOND_GLYPHS_LENGTH);
 }
 
@@ -249,9 +254,18 @@ static void write_dot(struct stream *stream, const struct second_panel *panel, u
     command(stream, (v == 0 ? 0xF0 : 0xF8) + bit);
 }
 
-static void write_cursor(struct stream *stream, unsigned line, unsigned column, unsigned height, unsigned blink)
+/* The lower half of a dual panel counts its lines from Y 16. */
+static unsigned cursor_y(const struct second_panel *panel, unsigned line)
 {
-    command_with(stream, column, line, 0x21);
+    unsigned half = panel->lines / 2;
+    if (panel->dual && line >= half) return 16 + line - half;
+    return line;
+}
+
+static void write_cursor(struct stream *stream, const struct second_panel *panel, unsigned line, unsigned column,
+                         unsigned height, unsigned blink)
+{
+    command_with(stream, column, cursor_y(panel, line), 0x21);
     command(stream, 0xA0 + height - 1);
     command(stream, blink == 0 ? 0x9E : 0x9F);
 }
@@ -267,7 +281,8 @@ static void write_operation(struct stream *stream, const struct second_panel *pa
     const unsigned char *field = operation + 1;
     switch (operation[0]) {
     case TEXT:
-        store_bytes(stream, TEXT_HOME + (unsigned long)field[0] * panel->columns + field[1], field + 3, field[2]);
+        store_bytes(stream, text_home(panel) + (unsigned long)field[0] * panel->columns + field[1],
+                    field + 3, field[2]);
         break;
     case RECTANGLE:
         write_rectangle(stream, panel, field[0], field[1], field[2], field[3], field[4]);
@@ -279,7 +294,7 @@ static void write_operation(struct stream *stream, const struct second_panel *pa
         store_bytes(stream, GLYPHS_START + 8UL * (field[0] - 0x80U), field + 1, 8);
         break;
     case CURSOR:
-        write_cursor(stream, field[0], field[1], field[2], field[3]);
+        write_cursor(stream, panel, field[0], field[1], field[2], field[3]);
         break;
     default:
         write_combination(stream, field[0]);

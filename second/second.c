@@ -31,9 +31,10 @@ void second_reset(struct second_registers *registers)
 int second_panel_valid(const struct second_panel *panel)
 {
     if (panel->columns < 1 || panel->columns > 80) return 0;
-    if (panel->lines < 1 || panel->lines > 16) return 0;
     if (panel->width != 6 && panel->width != 8) return 0;
-    return 1;
+    if (panel->dual > 1) return 0;
+    if (panel->dual) return panel->lines >= 2 && panel->lines <= 32 && panel->lines % 2 == 0;
+    return panel->lines >= 1 && panel->lines <= 16;
 }
 
 int second_state_valid(const struct second_registers *registers)
@@ -159,15 +160,22 @@ struct second_layers second_displayed(const struct second_panel *panel, const st
     return layers;
 }
 
+/* Does cursor Y stand for this line of the panel? Some Y stand for none. */
+static int y_shows_line(const struct second_panel *panel, unsigned y, unsigned line)
+{
+    unsigned half = panel->lines / 2;
+    if (!panel->dual) return y == line;
+    if (line < half) return y == line;
+    return y == 16 + line - half;
+}
+
 int second_cursor_covers(const struct second_panel *panel, const struct second_registers *registers,
                          unsigned row, unsigned column)
 {
     if (!registers->cursor) return 0;
     if (registers->blink && registers->phase == SECOND_PHASE_OFF) return 0;
-    if (registers->cursor_x >= panel->columns) return 0;
-    if (registers->cursor_y >= panel->lines) return 0;
     if (column != registers->cursor_x) return 0;
-    if (row / 8 != registers->cursor_y) return 0;
+    if (!y_shows_line(panel, registers->cursor_y, row / 8)) return 0;
     return row % 8 >= 8 - registers->cursor_height;
 }
 
@@ -307,7 +315,8 @@ static void copy(const struct second_panel *panel, struct second_registers *regi
 {
     unsigned char gathered[80];
     unsigned row, column, c;
-    if (registers->combination == SECOND_ATTRIBUTE || !second_position(panel, registers, &row, &column)) {
+    if (panel->dual || registers->combination == SECOND_ATTRIBUTE
+        || !second_position(panel, registers, &row, &column)) {
         registers->error = 1;
         return;
     }

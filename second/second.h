@@ -12,8 +12,9 @@ enum { SECOND_DATA_WRITE, SECOND_COMMAND, SECOND_DATA_READ, SECOND_STATUS_READ, 
 
 struct second_panel {
     unsigned columns; /* C, 1 to 80 */
-    unsigned lines;   /* L, 1 to 16 */
+    unsigned lines;   /* L, 1 to 16; for a dual panel 2 to 32, even */
     unsigned width;   /* w, 6 or 8 */
+    unsigned dual;    /* the marker: 1 for two halves, else 0 */
 };
 
 /* Every field is wider than its range; second_state_valid tests the ranges. */

@@ -7,10 +7,22 @@
 
 static inline unsigned below(struct generate_random *random, unsigned bound) { return generate_below(random, bound); }
 
+/* Mostly a line's of the panel, or the one behind the last; of a dual panel in either half. */
+static inline unsigned random_y(struct generate_random *random, const struct second_panel *panel)
+{
+    const unsigned half = panel->lines < 32 ? panel->lines / 2 : 16;
+    unsigned first, behind;
+    if (below(random, 4) == 0) return below(random, 32);
+    if (panel->dual != 1) return below(random, panel->lines % 32 + 1);
+    first = 16 * below(random, 2);
+    behind = below(random, 4) == 0 || half == 0;
+    return (first + below(random, half + behind)) % 32;
+}
+
 static inline void random_state(struct generate_random *random, const struct second_panel *panel, struct second_registers *r)
 {
     r->cursor_x = below(random, 4) ? below(random, panel->columns % 128 + 1) : below(random, 128);
-    r->cursor_y = below(random, 4) ? below(random, panel->lines % 32 + 1) : below(random, 32);
+    r->cursor_y = random_y(random, panel);
     r->offset = below(random, 32), r->pointer = below(random, 65536), r->text_home = below(random, 65536);
     r->graphic_home = below(random, 3) ? below(random, 65536) : r->pointer;
     r->text_area = below(random, 2) ? panel->columns % 256 : below(random, 256);

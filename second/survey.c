@@ -17,6 +17,8 @@ static struct {
     unsigned long copies_found, copies_lost, copies_in_attribute, copies_gather_matters;
     unsigned long auto_writes, auto_reads, latch_reads, statuses, ticks;
     unsigned long missing, past_limit, empty, large, far;
+    /* on dual panels; a copy with a place, so that nothing but the marker makes it invalid */
+    unsigned long dual_peeks, dual_copies, dual_wrong, dual_large, cursors[2];
     int repeats, parts_agree;
 } seen;
 
@@ -138,7 +140,7 @@ static int same_registers(const struct second_registers *a, const struct second_
 
 static void survey(unsigned long long seed)
 {
-    struct second_panel panel = {0, 0, 0};
+    struct second_panel panel = {0, 0, 0, 0};
     struct second_registers registers, in_parts;
     struct second_run_reply whole, parts;
     struct generate_random random;
@@ -188,6 +190,38 @@ static void survey(unsigned long long seed)
     }
 }
 
+/* A log for a dual panel: its peeks that find a place, its copies, and the half that shows the cursor in the end. */
+static void survey_dual(unsigned long long seed)
+{
+    struct second_panel panel = {0, 0, 0, 1};
+    struct second_registers registers;
+    unsigned long length = generate_dual_input(seed, input), at;
+    unsigned line, row, column;
+
+    if (length < 3) return;
+    panel.columns = input[0];
+    panel.lines = input[1];
+    panel.width = input[2];
+    second_reset(&registers);
+    memset(memory, 0, sizeof memory);
+    if (!second_panel_valid(&panel)) {
+        seen.dual_wrong++;
+        return;
+    }
+    if (panel.columns == 80 && panel.lines == 32) seen.dual_large++;
+    for (at = 3; at + 1 < length; at += 2) {
+        int placed = second_position(&panel, &registers, &row, &column) && registers.combination != SECOND_ATTRIBUTE;
+        if (second_access(&panel, &registers, memory, sizeof memory, rom, sizeof rom, input[at], input[at + 1]).number != 0) break;
+        if (input[at] != SECOND_COMMAND) continue;
+        if (input[at + 1] == 0xE0 && !registers.error) seen.dual_peeks++;
+        if (input[at + 1] == 0xE8 && placed) seen.dual_copies++;
+    }
+    if (registers.cursor_x >= panel.columns) return;
+    for (line = 0; line < panel.lines; line++) {
+        if (second_cursor_covers(&panel, &registers, 8 * line + 7, registers.cursor_x)) seen.cursors[line < panel.lines / 2 ? 0 : 1]++;
+    }
+}
+
 int main(int argc, char **argv)
 {
     unsigned long long seed, seeds = argc == 2 ? strtoull(argv[1], NULL, 10) : 300;
@@ -199,7 +233,10 @@ int main(int argc, char **argv)
     }
     seen.repeats = 1;
     seen.parts_agree = 1;
-    for (seed = 1; seed <= seeds; seed++) survey(seed);
+    for (seed = 1; seed <= seeds; seed++) {
+        survey(seed);
+        survey_dual(seed);
+    }
 
     for (code = 0; code < 256; code++) {
         if (seen.codes[code] > 0) accepted++;
@@ -212,6 +249,8 @@ int main(int argc, char **argv)
            seen.peeks_found, seen.peeks_lost, seen.peeks_first_matters);
     printf("# copies found %lu lost %lu in attribute mode %lu, gathering matters %lu\n",
            seen.copies_found, seen.copies_lost, seen.copies_in_attribute, seen.copies_gather_matters);
+    printf("# dual panels: cursors in the upper half %lu, in the lower %lu, peeks found %lu, copies with a place %lu\n",
+           seen.cursors[0], seen.cursors[1], seen.dual_peeks, seen.dual_copies);
     property("same seed, same bytes", seen.repeats);
     property("single accesses and a run in two parts agree", seen.parts_agree);
     property("all 66 defined codes are accepted", accepted == 66);
@@ -235,5 +274,8 @@ int main(int argc, char **argv)
              && seen.statuses > seeds && seen.ticks > seeds);
     property("missing panel bytes, empty logs, bytes past the limit",
              seen.missing > 0 && seen.empty > 0 && seen.past_limit > 0);
+    property("dual panels: cursors in both halves, peeks and copies with a place",
+             seen.cursors[0] > seeds / 30 && seen.cursors[1] > seeds / 30 && seen.dual_peeks > seeds && seen.dual_copies > seeds / 4);
+    property("dual panels: the full one, and ones that are not valid", seen.dual_large > 0 && seen.dual_wrong > 0);
     return 0;
 }

@@ -1,4 +1,5 @@
-/* write: C, L, w, a screen's number and a book in; the log program's input that shows the screen out. */
+/* write: C, L, w, a screen's number and a book in; the log program's input that shows the screen out. With an argument the panel is
+   in two halves. */
 #include <stdio.h>
 #include <stdlib.h>
 
@@ -6,7 +7,7 @@
 
 #define HEAD 4
 
-int main(void)
+int main(int argc, char **argv)
 {
     /* Zero: a missing byte counts as 0. One byte past the limit shows that a book is too long. */
     static unsigned char input[HEAD + SECOND_BOOK_LIMIT + 1];
@@ -24,6 +25,8 @@ int main(void)
     panel.columns = input[0];
     panel.lines = input[1];
     panel.width = input[2];
+    panel.dual = argc > 1;
+    (void)argv;
 
     /* No stream is empty: without room a screen is refused by 12, and its place says what room it needs. */
     reply = second_write(&panel, input + HEAD, book_length, input[3], NULL, 0);

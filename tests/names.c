@@ -11,7 +11,7 @@ static unsigned char frame[T6963C_FRAME_SIZE_MAX];
 
 static unsigned access(unsigned kind, unsigned byte)
 {
-    return t6963c_access(2, 1, T6963C_WIDTH_6, r, sizeof r, memory, sizeof memory, rom, sizeof rom,
+    return t6963c_access(2, 1, T6963C_WIDTH_6, T6963C_SINGLE, r, sizeof r, memory, sizeof memory, rom, sizeof rom,
                          (unsigned char)kind, (unsigned char)byte);
 }
 
@@ -56,27 +56,60 @@ static int tried(void)
     HOLDS(access(T6963C_COMMAND, 0x94) == T6963C_IN_AUTO && access(T6963C_DATA_READ, 0) == T6963C_AGAINST_AUTO);
     HOLDS(access(T6963C_COMMAND, 0xB2) == T6963C_DONE && access(T6963C_COMMAND, 0xB1) == T6963C_DONE && r[T6963C_AUTO] == 2);
     HOLDS(access(T6963C_COMMAND, 0xB2) == T6963C_DONE && access(T6963C_COMMAND, 0x24) == T6963C_FEW_DATA);
-    HOLDS(t6963c_run(2, 1, 6, r, sizeof r, memory, sizeof memory, rom, sizeof rom, odd, sizeof odd, 9, answers, 2, counts,
+    HOLDS(t6963c_run(2, 1, 6, 0, r, sizeof r, memory, sizeof memory, rom, sizeof rom, odd, sizeof odd, 9, answers, 2, counts,
                      T6963C_COUNTS_SIZE) == T6963C_ODD_LOG && counts[T6963C_PLACE] == 1);
-    HOLDS(t6963c_run(2, 1, 6, r, sizeof r, memory, sizeof memory, rom, sizeof rom, reads, sizeof reads, 9, answers, 2, counts,
+    HOLDS(t6963c_run(2, 1, 6, 0, r, sizeof r, memory, sizeof memory, rom, sizeof rom, reads, sizeof reads, 9, answers, 2, counts,
                      T6963C_COUNTS_SIZE) == T6963C_NO_ANSWER_ROOM);
     HOLDS(counts[T6963C_PLACE] == 2 && counts[T6963C_TAKEN] == 2 && counts[T6963C_ANSWERS] == 2 && answers[1] == 0x63);
-    HOLDS(T6963C_FRAME_SIZE(2, 1, 6) == 16 && T6963C_FRAME_SIZE(T6963C_COLUMNS_MAX, T6963C_LINES_MAX, 8) == T6963C_FRAME_SIZE_MAX);
+    HOLDS(T6963C_FRAME_SIZE(2, 1, 6) == 16 && T6963C_FRAME_SIZE(T6963C_COLUMNS_MAX, T6963C_DUAL_LINES_MAX, 8) == T6963C_FRAME_SIZE_MAX);
     /* row 2 of code 65 at its place in the ROM, the low six bits, the highest of them leftmost */
     t6963c_reset(r, sizeof r);
     rom[8 * 65 + 2] = 0xE1;
     memory[0] = 65;
     command(0x94, 0, 0);
-    HOLDS(t6963c_paint(2, 1, 6, r, sizeof r, memory, sizeof memory, rom, sizeof rom, frame, 16) == T6963C_DONE);
+    HOLDS(t6963c_paint(2, 1, 6, 0, r, sizeof r, memory, sizeof memory, rom, sizeof rom, frame, 16) == T6963C_DONE);
     HOLDS(frame[2 * T6963C_ROW_SIZE(2, 6)] == 0x84 && frame[2 * T6963C_ROW_SIZE(2, 6) + 1] == 0);
-    HOLDS(t6963c_layers(2, 1, 6, r, sizeof r, memory, sizeof memory, rom, sizeof rom, 2, 0) == 0x21002100u);
-    HOLDS(t6963c_layers(2, 1, 7, r, sizeof r, memory, sizeof memory, rom, sizeof rom, 2, 0) == T6963C_NOT_VALID);
-    HOLDS(t6963c_paint(2, 1, 6, r, sizeof r, memory, sizeof memory, rom, sizeof rom, frame, 15) == T6963C_LENGTH);
-    HOLDS(t6963c_paint(81, 1, 6, r, sizeof r, memory, sizeof memory, rom, sizeof rom, frame, 15) == T6963C_NOT_VALID);
+    HOLDS(t6963c_layers(2, 1, 6, 0, r, sizeof r, memory, sizeof memory, rom, sizeof rom, 2, 0) == 0x21002100u);
+    HOLDS(t6963c_layers(2, 1, 7, 0, r, sizeof r, memory, sizeof memory, rom, sizeof rom, 2, 0) == T6963C_NOT_VALID);
+    HOLDS(t6963c_paint(2, 1, 6, 0, r, sizeof r, memory, sizeof memory, rom, sizeof rom, frame, 15) == T6963C_LENGTH);
+    HOLDS(t6963c_paint(81, 1, 6, 0, r, sizeof r, memory, sizeof memory, rom, sizeof rom, frame, 15) == T6963C_NOT_VALID);
+    return 0;
+}
+
+static unsigned paint(unsigned long lines, unsigned marker, unsigned long length)
+{
+    return t6963c_paint(1, lines, T6963C_WIDTH_8, (unsigned char)marker, r, sizeof r, memory, sizeof memory, rom, sizeof rom, frame,
+                        length);
+}
+
+/* The marker: lines by kind, Y by halves, the largest frame, copy and peek. */
+static int halves(void)
+{
+    static const unsigned char seen[] = {0, 1, 0, 0, 1, 0x43, 0, 0, 0, 0, 1, 0x24, 1, 0xE0, 3, 0, 1, 0xE8, 3, 0};
+    unsigned long counts[T6963C_COUNTS_SIZE];
+    unsigned char answers[2];
+    t6963c_reset(r, sizeof r);
+    HOLDS(paint(T6963C_LINES_MAX, T6963C_SINGLE, 128) == T6963C_DONE && paint(17, T6963C_SINGLE, 136) == T6963C_NOT_VALID);
+    HOLDS(paint(1, T6963C_SINGLE, 8) == T6963C_DONE && paint(1, T6963C_DUAL, 8) == T6963C_NOT_VALID);
+    HOLDS(paint(2, T6963C_DUAL, 16) == T6963C_DONE && paint(0, T6963C_DUAL, 0) == T6963C_NOT_VALID);
+    HOLDS(paint(T6963C_DUAL_LINES_MAX, T6963C_DUAL, 256) == T6963C_DONE && paint(31, T6963C_DUAL, 248) == T6963C_NOT_VALID);
+    HOLDS(paint(34, T6963C_DUAL, 272) == T6963C_NOT_VALID && paint(2, 2, 16) == T6963C_NOT_VALID && paint(2, 255, 16) == T6963C_NOT_VALID);
+    HOLDS(t6963c_paint(T6963C_COLUMNS_MAX, T6963C_DUAL_LINES_MAX, T6963C_WIDTH_8, T6963C_DUAL, r, sizeof r, memory, sizeof memory, rom,
+                       sizeof rom, frame, T6963C_FRAME_SIZE_MAX) == T6963C_DONE);
+    r[T6963C_CURSOR_ON] = 1;
+    r[T6963C_CURSOR_Y] = 17;
+    HOLDS(paint(8, T6963C_DUAL, 64) == T6963C_DONE && frame[8 * 5 + 7] == 0xFF);
+    r[T6963C_CURSOR_Y] = 4;
+    HOLDS(paint(8, T6963C_DUAL, 64) == T6963C_DONE && frame[8 * 4 + 7] == 0);
+    HOLDS(paint(8, T6963C_SINGLE, 64) == T6963C_DONE && frame[8 * 4 + 7] == 0xFF);
+    t6963c_reset(r, sizeof r);
+    HOLDS(t6963c_run(1, 2, 8, T6963C_DUAL, r, sizeof r, memory, sizeof memory, rom, sizeof rom, seen, sizeof seen, 99, answers, 2, counts,
+                     T6963C_COUNTS_SIZE) == T6963C_DONE && answers[0] == 0xA3 && answers[1] == 0xE3);
     return 0;
 }
 
 int main(void)
 {
-    return tried();
+    const int line = tried();
+    return line ? line : halves();
 }

@@ -1,7 +1,8 @@
 # Sourced by every command: options, input, output and status, the same for all. Before that `root` is the repository's folder and `usage`
 # the command with what it takes. The command then sets what follows here, defines `help`, perhaps `check`, and calls
 # `front "$@"`.
-#   flags     its own options without a value, as `pbm off`; `--pbm` sets opt_pbm to yes
+#   flags     its own options without a value, as `pbm off`; `--pbm` sets opt_pbm to yes. `--dual` is the marker of a panel in two halves,
+#             of which the program is told by a word
 #   values    those with one, as `at rom`; `--at 5` and `--at=5` set opt_at to 5
 #   sample    what it shows where nothing else was given
 #   most      how many bytes of its input count, where that is limited

@@ -1,9 +1,11 @@
 # Sourced by the front: refusals in words. The file is $work/in; the numbers are document 01's, and docs/NUMBERS.md has them all.
 
-# refuse_panel: 1
+# refuse_panel: 1, by the lines of its kind
 refuse_panel() {
-    bytes "$work/in" 0 3 | awk '{
-        printf "refused: 1, the panel is not valid: columns %d (1 to 80), lines %d (1 to 16), width %d (6 or 8)\n", $1, $2, $3 }'
+    bytes "$work/in" 0 3 | awk -v dual="$opt_dual" '{
+        fit = dual ? "in two halves 2 to 32, even" : "1 to 16"
+        if (!dual && $2 > 16 && $2 <= 32 && $2 % 2 == 0) fit = fit "; in two halves 2 to 32, even: --dual"
+        printf "refused: 1, the panel is not valid: columns %d (1 to 80), lines %d (%s), width %d (6 or 8)\n", $1, $2, fit, $3 }'
 }
 
 # refuse_log NUMBER PLACE: of a file with C, L, w and pairs; with the three pairs before the one refused

@@ -18,7 +18,7 @@ use Rattle.book.specs.Range.{FoundOperation}
 use Rattle.book.specs.Screen.{Screen, screen, refused, withOperation, operationsFrom}
 use Rattle.contents.specs.Inside.{Inside}
 use Rattle.book.specs.Checked.{refusedWith, countedOf}
-use Rattle.book.proofs.Finding.{found-operation, pairs-placed, pairs-few}
+use Rattle.book.proofs.Finding.{found-operation, pairs-placed, mostPairs, pairs-few}
 use Rattle.book.proofs.Walking.{walk-on, walk-end, walk-faulty, walk-all}
 
 abbrev pub counted : ℕ → ℕ → ℕ → Checked
@@ -40,12 +40,12 @@ module _ (start end : ℕ) where
       ap (counted start end) (add-assoc total n (bodyCount os) ∙ ap (λ (m : ℕ). total + (m + bodyCount os)) e)
   one-more total o (refused n place) e = refl
 
--- each operation takes at most 10,880 pairs
+-- each operation takes at most so many pairs
 pub body-few : (p : Panel) → Panelled p → (book : List ℕ) (end n at : ℕ) {os : List Operation} → operationsFrom n p book at end ≡ screen os
-    → bodyCount os ≤ 10880 * n
+    → bodyCount os ≤ mostPairs * n
 unfolding bodyCount
 body-few p q book end =
-    walk-all p book end (λ n os. bodyCount os ≤ 10880 * n) (λ n. omega arith)
+    walk-all p book end (λ n os. bodyCount os ≤ mostPairs * n) (λ n. omega arith)
     (λ n at next o os k few.
     omega (arith, pairs-placed p book o (k .range), pairs-few p q book o (k .range)))
 
@@ -55,7 +55,7 @@ pub record Counting (p : Panel) (book : List ℕ) (start end at total : ℕ) : T
   pub inside : Inside book start end
   pub from-start : start ≤ at
   pub to-end : at ≤ end
-  pub few : total ≤ 10880 * (at - start)
+  pub few : total ≤ mostPairs * (at - start)
   pub left : countedOn start end total (operationsFrom (end - at) p book at end) ≡ countedOf start end (operationsFrom (end - start) p book start end)
 
 module _ (p : Panel) (book : List ℕ) (start end : ℕ) where
@@ -77,7 +77,7 @@ module _ (p : Panel) (book : List ℕ) (start end : ℕ) where
     pub counting-on : {o : Placed} {next n : ℕ} → f ≡ Found-Operation o next → n ≡ placedPairs o → Counting p book start end next (total + n)
     counting-on {o} {next} {n} e j =
         let g = found-operation p book at end (sym i ∙ e) in
-        let m : n ≤ 10880 = rw j (pairs-few p (k .panel) book o (g .range)) in
+        let m : n ≤ mostPairs = rw j (pairs-few p (k .panel) book o (g .range)) in
         record {
           panel = k .panel;
           inside = k .inside;

@@ -178,11 +178,14 @@ pairs-placed p book (Glyph code from) k = refl
 pairs-placed p book (Cursor line column height blink) k = refl
 pairs-placed p book (Combine c) k = refl
 
--- at most 128 rows of 80 bytes and five pairs
-pub pairs-few : (p : Panel) → Panelled p → (book : List ℕ) (o : Placed) → InRange p book o → placedPairs o ≤ 10880
+-- 256 rows of 80 bytes and five pairs
+abbrev pub mostPairs : ℕ
+mostPairs = 21760
+
+pub pairs-few : (p : Panel) → Panelled p → (book : List ℕ) (o : Placed) → InRange p book o → placedPairs o ≤ mostPairs
 pairs-few p q book (Text line column from n) k = omega (arith, k .few)
 pairs-few p q book (Rectangle top column height width value) k =
-    mul-le-mul {n₂ = 128} {m₂ = 85} (omega (arith, k .down, q .lines)) (omega (arith, k .across, q .columns))
+    mul-le-mul {n₂ = 256} {m₂ = 85} (omega (arith, k .down, q .lines)) (omega (arith, k .across, q .columns))
 pairs-few p q book (Dot x y on) k = omega arith
 pairs-few p q book (Glyph code from) k = omega arith
 pairs-few p q book (Cursor line column height blink) k = omega arith

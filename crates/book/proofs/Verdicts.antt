@@ -18,6 +18,7 @@ use Rattle.book.specs.Screen.{Screen, screen, refused, operationsFrom, s
 use Rattle.contents.specs.Asked.{askedOf}
 use Rattle.book.specs.Checked.{refusedWith, countedOf, checkedIn, checkedOf}
 use Rattle.contents.proofs.Asking.{asked-inside, asked-number}
+use Rattle.book.proofs.Finding.{mostPairs}
 use Rattle.book.proofs.Walking.{walk-number}
 use Rattle.book.proofs.Counting.{body-few}
 
@@ -47,7 +48,7 @@ pub record Accepted (p : Panel) (book : List ℕ) (number : ℕ) (r : Checked) :
   pub operations : operationsFrom (r .end - r .start) p book (r .start) (r .end) ≡ screen os
   pub whole : screenOf p book number ≡ screen os
   pub pairs : r .pairs ≡ bodyCount os
-  pub few : r .pairs ≤ 10880 * 32768
+  pub few : r .pairs ≤ mostPairs * 32768
   pub place : r .place ≡ 0
 
 module _ (p : Panel) (book : List ℕ) (number : ℕ) where

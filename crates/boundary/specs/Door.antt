@@ -2,11 +2,15 @@
 use Prim.Native.Nat.{ℕ}
 use mathlib.Core.Bool.{Bool, cond, _&&_, _||_}
 use mathlib.Core.List.{List, [], _∷_}
-use lib.Dec.{eqb}
+use lib.Dec.{leb, eqb}
 use lib.ListN.{length}
 use Rattle.state.specs.State.{validPanel, validRegisters}
 use Rattle.boundary.specs.Types.{Panel, Registers, Entry, State, Refused}
 use Rattle.boundary.specs.Image.{bytesOf, readable, stateOf}
+
+-- the marker is 0 for a single panel, 1 for one in two halves (02, Req 08); another leaves no lines, so that 1 refuses it
+abbrev pub panelOf : ℕ → ℕ → ℕ → ℕ → Panel
+panelOf columns lines width dual = record { columns = columns; lines = cond (leb dual 1) lines 0; width = width; dual = eqb dual 1 }
 
 -- 1 panel not valid; 2 registers of another length than 25, which can't be read; 1 bytes that are no registers, or no valid ones;
 -- 2 another buffer not as lent

@@ -15,9 +15,6 @@ use Rattle.boundary.specs.Types.{Panel, Entry, State, Refused}
 use Rattle.boundary.specs.Image.{bytesOf}
 use Rattle.boundary.specs.Door.{doorOf, keptOf, countsOf}
 
-abbrev pub panelOf : ℕ → ℕ → ℕ → Panel
-panelOf columns lines width = record { columns = columns; lines = lines; width = width }
-
 -- an access
 pub record AccessEnd : Type 0 where
   pub result : ℕ

@@ -1,7 +1,7 @@
 // What each export does before the controller is asked, and after.
 ghost use mathlib.Core.Path.{_≡_};
 ghost use lib.ListN.{length};
-ghost use Rattle.boundary.specs.Door.{doorOf, closes, keptOf, countsOf};
+ghost use Rattle.boundary.specs.Door.{panelOf, doorOf, closes, keptOf, countsOf};
 use super::image::decode;
 use super::image::encode;
 use super::image::is_readable;
@@ -12,6 +12,26 @@ use state::registers::Registers;
 pub(crate) enum Entry {
     State(Registers),
     Refused(u8),
+}
+
+// The panel by its marker, 0 or 1; with another it has no lines, and 1 refuses it.
+pub(crate) fn marked(columns: usize, lines: usize, width: usize, dual: u8) -> Panel
+    ensures { λ r. ⌜ r ≡ panelOf columns lines width dual ⌝ }
+{
+    if dual <= 1 {
+        return Panel {
+            columns,
+            lines,
+            width,
+            dual: dual == 1,
+        };
+    }
+    Panel {
+        columns,
+        lines: 0,
+        width,
+        dual: dual == 1,
+    }
 }
 
 // `lent` says whether the other buffers whose length is fixed here have it; that is asked last, since 1 comes before 2.

@@ -1,17 +1,18 @@
 // The functions that C calls: every input gets a reply.
 ghost use mathlib.Core.Path.{_≡_};
-ghost use Rattle.boundary.specs.Exports.{panelOf, accessEnd, accessBytes, runEnd, runBytes, paintEnd, paintBytes, layersWord, layersBytes, resetEnd, resetBytes};
+ghost use Rattle.boundary.specs.Door.{panelOf};
+ghost use Rattle.boundary.specs.Exports.{accessEnd, accessBytes, runEnd, runBytes, paintEnd, paintBytes, layersWord, layersBytes, resetEnd, resetBytes};
 use super::door::Entry;
 use super::door::count;
 use super::door::enter;
 use super::door::keep;
+use super::door::marked;
 use super::image::encode;
 use controller::access::access;
 use controller::run::run;
 use display::frame::paint;
 use display::seen::layers;
 use ground::bytes::word;
-use state::panel::Panel;
 use state::registers::Registers;
 
 // One access: the number in the low byte, the byte read in the high one.
@@ -20,19 +21,16 @@ pub extern "C" fn t6963c_access(
     columns: usize,
     lines: usize,
     width: usize,
+    dual: u8,
     registers: &mut [u8],
     memory: &mut [u8],
     rom: &[u8],
     kind: u8,
     byte: u8,
 ) -> u16
-    ensures { λ r. ⌜ accessEnd r (now (registers .exit)) (now (memory .exit)) ≡ accessBytes (panelOf columns lines width) (now (registers .entry)) (now (memory .entry)) (now (rom .entry)) (record { kind = kind; byte = byte }) ⌝ }
+    ensures { λ r. ⌜ accessEnd r (now (registers .exit)) (now (memory .exit)) ≡ accessBytes (panelOf columns lines width dual) (now (registers .entry)) (now (memory .entry)) (now (rom .entry)) (record { kind = kind; byte = byte }) ⌝ }
 {
-    let panel = Panel {
-        columns,
-        lines,
-        width,
-    };
+    let panel = marked(columns, lines, width, dual);
     match enter(panel, true, registers) {
         Entry::State(state) => {
             let acted = access(panel, state, memory, rom, kind, byte);
@@ -50,6 +48,7 @@ pub extern "C" fn t6963c_run(
     columns: usize,
     lines: usize,
     width: usize,
+    dual: u8,
     registers: &mut [u8],
     memory: &mut [u8],
     rom: &[u8],
@@ -58,13 +57,9 @@ pub extern "C" fn t6963c_run(
     answers: &mut [u8],
     counts: &mut [usize],
 ) -> u8
-    ensures { λ r. ⌜ runEnd r (now (registers .exit)) (now (memory .exit)) (now (answers .exit)) (now (counts .exit)) ≡ runBytes (panelOf columns lines width) (now (registers .entry)) (now (memory .entry)) (now (rom .entry)) (now (log .entry)) limit (now (answers .entry)) (now (counts .entry)) ⌝ }
+    ensures { λ r. ⌜ runEnd r (now (registers .exit)) (now (memory .exit)) (now (answers .exit)) (now (counts .exit)) ≡ runBytes (panelOf columns lines width dual) (now (registers .entry)) (now (memory .entry)) (now (rom .entry)) (now (log .entry)) limit (now (answers .entry)) (now (counts .entry)) ⌝ }
 {
-    let panel = Panel {
-        columns,
-        lines,
-        width,
-    };
+    let panel = marked(columns, lines, width, dual);
     let counted = counts.len() == 3;
     match enter(panel, counted, registers) {
         Entry::State(state) => {
@@ -84,18 +79,15 @@ pub extern "C" fn t6963c_paint(
     columns: usize,
     lines: usize,
     width: usize,
+    dual: u8,
     registers: &[u8],
     memory: &[u8],
     rom: &[u8],
     frame: &mut [u8],
 ) -> u8
-    ensures { λ r. ⌜ paintEnd r (now (frame .exit)) ≡ paintBytes (panelOf columns lines width) (now (registers .entry)) (now (memory .entry)) (now (rom .entry)) (now (frame .entry)) ⌝ }
+    ensures { λ r. ⌜ paintEnd r (now (frame .exit)) ≡ paintBytes (panelOf columns lines width dual) (now (registers .entry)) (now (memory .entry)) (now (rom .entry)) (now (frame .entry)) ⌝ }
 {
-    let panel = Panel {
-        columns,
-        lines,
-        width,
-    };
+    let panel = marked(columns, lines, width, dual);
     match enter(panel, true, registers) {
         Entry::State(state) => {
             let reply = paint(panel, state, memory, rom, frame);
@@ -118,19 +110,16 @@ pub extern "C" fn t6963c_layers(
     columns: usize,
     lines: usize,
     width: usize,
+    dual: u8,
     registers: &[u8],
     memory: &[u8],
     rom: &[u8],
     row: usize,
     column: usize,
 ) -> u32
-    ensures { λ r. ⌜ r ≡ layersBytes (panelOf columns lines width) (now (registers .entry)) (now (memory .entry)) (now (rom .entry)) row column ⌝ }
+    ensures { λ r. ⌜ r ≡ layersBytes (panelOf columns lines width dual) (now (registers .entry)) (now (memory .entry)) (now (rom .entry)) row column ⌝ }
 {
-    let panel = Panel {
-        columns,
-        lines,
-        width,
-    };
+    let panel = marked(columns, lines, width, dual);
     match enter(panel, true, registers) {
         Entry::State(state) => {
             let display = state.display;

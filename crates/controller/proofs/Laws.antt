@@ -58,7 +58,7 @@ keepsMemory (Bit on k) = false
 module _ (p : Panel) (rom : List ℕ) (s : Machine) where
   copy-display : (x : Position) → copyOf p rom s x .registers .display ≡ s .registers .display
   copy-display (At r c) =
-      cond-has (λ (m : Machine). m .registers .display ≡ s .registers .display) (isAttribute (s .registers .display .combination)) refl refl
+      cond-has (λ (m : Machine). m .registers .display ≡ s .registers .display) (p .dual || isAttribute (s .registers .display .combination)) refl refl
   copy-display Nowhere = refl
 
   pub display-kept : (k : Command) → keepsDisplay k ≡ true → effectOf p rom s k .registers .display ≡ s .registers .display
@@ -148,7 +148,7 @@ module _ (p : Panel) (rom : List ℕ) (s : Machine) (k : Sounds s) where
   copy-long : (x : Position) → length (copyOf p rom s x .memory) ≡ length (s .memory)
   unfolding copiedOf
   copy-long (At r c) =
-      cond-has (λ (m : Machine). length (m .memory) ≡ length (s .memory)) (isAttribute (s .registers .display .combination)) refl
+      cond-has (λ (m : Machine). length (m .memory) ≡ length (s .memory)) (p .dual || isAttribute (s .registers .display .combination)) refl
       (stored-length (s .memory) _ _)
   copy-long Nowhere = refl
 

@@ -22,6 +22,7 @@ use Rattle.ground.proofs.Tests.{both-right}
 use Rattle.display.specs.Types.{Panel, Display, Combination, Or, Exor, And, Attribute, Manner, Normal, Reverse, Inhibit, Look}
 use Rattle.display.proofs.Bounds.{glyph-lt}
 use Rattle.display.proofs.Cases.{graphic-on, graphic-off, text-off, text-plain, text-attributed, cell-shown, cell-cursor}
+use Rattle.state.specs.Halves.{cursorY}
 use Rattle.display.specs.Displayed.{addressOf, attributeByte, mixed, glyphDots, textDots, graphicDots, displayedByte, cursorLit, cursorCovers, cellByte}
 use Rattle.state.specs.Attribute.{lookOf, shownAs, attributed}
 use Rattle.state.specs.Combination.{isAttribute}
@@ -80,15 +81,15 @@ module _ (p : Panel) (d : Display) (mem rom : List ℕ) (r : ℕ) where
   unfolding cellByte
   beside c n =
       sym (ap (λ (v : Bool). cond v (2 ^ p .width - 1) (displayedByte p d mem rom r c))
-      ((λ i. cursorLit (d .bits .cursor) (d .bits .blink) (d .phase) && (ltb (d .cursor .x) (p .columns) && ltb (d .cursor .y) (p .lines) && ne-eqb (d .cursor .x) c (λ e. n (sym e)) i && eqb (d .cursor .y) (r / 8) && leb (8 - d .cursor .height) (r % 8)))
-      ∙ none (cursorLit (d .bits .cursor) (d .bits .blink) (d .phase)) (ltb (d .cursor .x) (p .columns)) (ltb (d .cursor .y) (p .lines)) (eqb (d .cursor .y) (r / 8)) (leb (8 - d .cursor .height) (r % 8))))
+      ((λ i. cursorLit (d .bits .cursor) (d .bits .blink) (d .phase) && (ltb (d .cursor .x) (p .columns) && ltb (r / 8) (p .lines) && ne-eqb (d .cursor .x) c (λ e. n (sym e)) i && eqb (d .cursor .y) (cursorY p (r / 8)) && leb (8 - d .cursor .height) (r % 8)))
+      ∙ none (cursorLit (d .bits .cursor) (d .bits .blink) (d .phase)) (ltb (d .cursor .x) (p .columns)) (ltb (r / 8) (p .lines)) (eqb (d .cursor .y) (cursorY p (r / 8))) (leb (8 - d .cursor .height) (r % 8))))
 
   module _ {a b : Bool} (i : a ≡ cursorLit (d .bits .cursor) (d .bits .blink) (d .phase)) (j : b ≡ cursorCovers p (d .cursor) (r / 8) (r % 8) (d .cursor .x)) where
     -- the cursor's column is on the panel
     pub inside : (a && b) ≡ true → d .cursor .x < p .columns
     inside e =
         ltb-true (d .cursor .x) (p .columns)
-        (first (ltb (d .cursor .x) (p .columns)) (ltb (d .cursor .y) (p .lines)) (eqb (d .cursor .x) (d .cursor .x)) (eqb (d .cursor .y) (r / 8)) (leb (8 - d .cursor .height) (r % 8)) (sym j ∙ both-right a b e))
+        (first (ltb (d .cursor .x) (p .columns)) (ltb (r / 8) (p .lines)) (eqb (d .cursor .x) (d .cursor .x)) (eqb (d .cursor .y) (cursorY p (r / 8))) (leb (8 - d .cursor .height) (r % 8)) (sym j ∙ both-right a b e))
       where
         first : (t u v w x : Bool) → (t && u && v && w && x) ≡ true → t ≡ true
         first true u v w x h = refl

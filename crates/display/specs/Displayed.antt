@@ -4,6 +4,7 @@ use mathlib.Core.List.{List}
 use mathlib.Core.Bool.{Bool, cond, not, _&&_, _||_}
 use lib.Dec.{ltb, leb, eqb}
 use lib.ListN.{getD}
+use Rattle.state.specs.Halves.{cursorY}
 use Rattle.state.specs.Attribute.{attributed}
 use Rattle.state.specs.Combination.{isAttribute, combined}
 use Rattle.display.specs.Types.{Panel, Plane, Cursor, Display, Combination}
@@ -59,10 +60,11 @@ unfoldable pub displayedByte : Panel → Display → List ℕ → List ℕ → �
 displayedByte p d mem rom r c =
     mixed (d .bits .text) (d .bits .graphic) (d .combination) (textDots p d mem rom r c) (graphicDots p d mem r c)
 
--- X below C, Y below L: the cursor's cell, in its lowest rows, as many as its height (H)
+-- X below C: the cell of X on the line with the cursor's Y (02, Req 08), if the panel has one, in its lowest rows, as many as its
+-- height (H)
 abbrev pub cursorCovers : Panel → Cursor → ℕ → ℕ → ℕ → Bool
 cursorCovers p k l v c =
-    ltb (k .x) (p .columns) && ltb (k .y) (p .lines) && eqb (k .x) c && eqb (k .y) l && leb (8 - k .height) v
+    ltb (k .x) (p .columns) && ltb l (p .lines) && eqb (k .x) c && eqb (k .y) (cursorY p l) && leb (8 - k .height) v
 
 -- cursor bit on, blink bit off or phase normal
 abbrev pub cursorLit : Bool → Bool → Bool → Bool

@@ -8,7 +8,7 @@ use Rattle.display.specs.Types.{Panel, Display}
 
 pub record Drawable (p : Panel) (d : Display) (mem rom : List ℕ) : Type 0 where
   pub columns : p .columns ≤ 80
-  pub lines : p .lines ≤ 16
+  pub lines : p .lines ≤ 32
   pub width : (p .width ≡ 6) ⊎ (p .width ≡ 8)
   pub offset : d .offset < 32
   pub height : d .cursor .height ≤ 8

@@ -98,14 +98,16 @@ pub(crate) fn cursor_covers(
     v: usize,
     column: usize,
 ) -> bool
-    requires { ⌜ cursor .height ≤ 8 ⌝ }
+    requires { ⌜ (panel .lines ≤ 32) × (cursor .height ≤ 8) ⌝ }
     ensures { λ r. ⌜ r ≡ cursorCovers panel cursor line v column ⌝ }
 {
+    if panel.lines <= line {
+        return false;
+    }
     let x = cursor.x as usize;
-    let y = cursor.y as usize;
+    let y = panel.cursor_y(line as u8);
     (x < panel.columns)
-        & (y < panel.lines)
         & (x == column)
-        & (y == line)
+        & (cursor.y as usize == y)
         & (8 - cursor.height as usize <= v)
 }

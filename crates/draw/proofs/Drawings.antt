@@ -93,10 +93,10 @@ module _ (p : Panel) (book : List ℕ) (number : ℕ) (rom : List ℕ) (normal :
       may-print p (r .number) e (λ z. let i : r .number ≡ 1 = ap (λ (d : Drew). d .reply .number) (h ∙ drew-1 v) in absurd (let y : ⊥ = omega arith in y))
 
   printed-is : {r : Reply} {a b c e : List ℕ} → drewAll r a b c e ≡ drawOf p book number rom normal g t l f → length e ≡ length f → (out : List ℕ)
-      → printPictureOf p (r .number) (r .place) e out ≡ printText (eqb (length out) 131072) (drawn p rom normal (came (validPanel p))) out
+      → printPictureOf p (r .number) (r .place) e out ≡ printText (eqb (length out) 196608) (drawn p rom normal (came (validPanel p))) out
   unfolding printPictureOf
   printed-is h k out =
-      λ i. printText (framed-is (validPanel p) refl h k i && eqb (length out) 131072) (text-is (validPanel p) refl h i) out
+      λ i. printText (framed-is (validPanel p) refl h k i && eqb (length out) 196608) (text-is (validPanel p) refl h i) out
 
   -- and the number told is the screen's
   screen-number : (s : Screen) → drawScreen p rom normal g t l f s .reply .number ≡ screenNumber s
@@ -108,26 +108,26 @@ module _ (p : Panel) (book : List ℕ) (number : ℕ) (rom : List ℕ) (normal :
   number-is false v h = ap (λ (d : Drew). d .reply .number) (h ∙ drew-1 v)
 
 -- the whole text
-pub draw-all : (input out : List ℕ) {p : Panel} {number : ℕ} {normal : Bool} {book rom g t l f : List ℕ} → p ≡ panelIn input → number ≡ getD input 3 0 → normal ≡ phaseIn input
+pub draw-all : (dual : Bool) (input out : List ℕ) {p : Panel} {number : ℕ} {normal : Bool} {book rom g t l f : List ℕ} → p ≡ panelIn dual input → number ≡ getD input 3 0 → normal ≡ phaseIn input
     → book ≡ drop 5 input → PlanesCut p rom g t l f → {r : Reply} {a b c e : List ℕ} → drewAll r a b c e ≡ drawOf p book number rom normal g t l f
     → length e ≡ length f → {w : ℕ} {o : List ℕ} → printed w o ≡ printPictureOf p (r .number) (r .place) e out
-    → reported (record { count = w; number = r .number }) o ≡ drawTextOf rom input out
+    → reported (record { count = w; number = r .number }) o ≡ drawTextOf dual rom input out
 unfolding drawTextOf drawText
-draw-all input out {p} {number} {normal} {book} {rom} {g} {t} {l} {f} i j k m fits {r} h s {w} {o} x =
+draw-all dual input out {p} {number} {normal} {book} {rom} {g} {t} {l} {f} i j k m fits {r} h s {w} {o} x =
     let text =
     x ∙ printed-is p book number rom normal g t l f fits h s out
-    ∙ (λ q. printText (eqb (length out) 131072) (drawn (i q) rom (k q) (cond (validPanel (i q)) (screenOf (i q) (m q) (j q)) (refused 1 0))) out) in
+    ∙ (λ q. printText (eqb (length out) 196608) (drawn (i q) rom (k q) (cond (validPanel (i q)) (screenOf (i q) (m q) (j q)) (refused 1 0))) out) in
     let told =
     number-is p book number rom normal g t l f fits (validPanel p) refl h
     ∙ (λ q. screenNumber (cond (validPanel (i q)) (screenOf (i q) (m q) (j q)) (refused 1 0))) in
     λ q. record { text = text q; number = told q }
 
-module _ (rom input out : List ℕ) where
+module _ (dual : Bool) (rom input out : List ℕ) where
   -- the text stands in its room
-  pub draw-within : {t : Told} {b : List ℕ} → reported t b ≡ drawTextOf rom input out → t .count ≤ length b
+  pub draw-within : {t : Told} {b : List ℕ} → reported t b ≡ drawTextOf dual rom input out → t .count ≤ length b
   unfolding drawTextOf
-  draw-within h = printed-within (eqb (length out) 131072) (drawText rom input) out (ap (λ (o : Reported). o .text) h)
+  draw-within h = printed-within (eqb (length out) 196608) (drawText dual rom input) out (ap (λ (o : Reported). o .text) h)
 
   -- two replies that meet the promise are equal
-  pub draw-text-settled : {n k : Told} {b c : List ℕ} → reported n b ≡ drawTextOf rom input out → reported k c ≡ drawTextOf rom input out → (n ≡ k) × (b ≡ c)
+  pub draw-text-settled : {n k : Told} {b c : List ℕ} → reported n b ≡ drawTextOf dual rom input out → reported k c ≡ drawTextOf dual rom input out → (n ≡ k) × (b ≡ c)
   draw-text-settled h k = reported-settled h k

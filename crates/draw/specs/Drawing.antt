@@ -24,17 +24,17 @@ drawn p rom normal (screen os) = refusalLine 0 0 ++ frameLines p (pictureFrame p
 drawn p rom normal (refused n place) = refusalLine n place
 
 -- C, L, w, number, phase, book: 1 where the panel is not valid, then what the screen comes to
-abbrev pub screenToDraw : List ℕ → Screen
-screenToDraw input =
-    cond (validPanel (panelIn input)) (screenOf (panelIn input) (drop 5 input) (getD input 3 0)) (refused 1 0)
+abbrev pub screenToDraw : Bool → List ℕ → Screen
+screenToDraw dual input =
+    cond (validPanel (panelIn dual input)) (screenOf (panelIn dual input) (drop 5 input) (getD input 3 0)) (refused 1 0)
 
-unfoldable pub drawText : List ℕ → List ℕ → List ℕ
-drawText rom input = drawn (panelIn input) rom (phaseIn input) (screenToDraw input)
+unfoldable pub drawText : Bool → List ℕ → List ℕ → List ℕ
+drawText dual rom input = drawn (panelIn dual input) rom (phaseIn input) (screenToDraw dual input)
 
--- lent: 131,072 bytes of text, which suffice; the number is the screen's
-unfoldable pub drawTextOf : List ℕ → List ℕ → List ℕ → Reported
-drawTextOf rom input out =
-    record { text = printText (eqb (length out) 131072) (drawText rom input) out; number = screenNumber (screenToDraw input) }
+-- lent: 196,608 bytes of text, which suffice; the number is the screen's
+unfoldable pub drawTextOf : Bool → List ℕ → List ℕ → List ℕ → Reported
+drawTextOf dual rom input out =
+    record { text = printText (eqb (length out) 196608) (drawText dual rom input) out; number = screenNumber (screenToDraw dual input) }
 
 -- a valid panel's ROM, planes and frame: what an inner routine rests on
 pub record PlanesCut (p : Panel) (rom graphic codes glyphs frame : List ℕ) : Type 0 where

@@ -1,5 +1,5 @@
 // The draw program: a panel, a screen's number, a phase and a book from standard input; to standard output the screen's refusal and its
-// picture. Started with an argument it takes the character ROM before them.
+// picture. Started with an argument it takes the character ROM before them, with a second one the panel is in two halves.
 ghost use mathlib.Core.Path.{_≡_};
 ghost use lib.ListN.{length};
 ghost use Rattle.printed.specs.Printed.{panelIn, reported};
@@ -20,6 +20,7 @@ use state::panel::Panel;
 
 // A screen's picture as text, drawn in planes and a frame of its panel's lengths; in the phase that is off where its byte is 0.
 fn print_screen(
+    dual: bool,
     input: &[u8],
     panel: Panel,
     rom: &[u8],
@@ -29,9 +30,9 @@ fn print_screen(
     frame: &mut [u8],
     out: &mut [u8],
 ) -> Told
-    requires { ⌜ panel ≡ panelIn (now input) ⌝ }
+    requires { ⌜ panel ≡ panelIn dual (now input) ⌝ }
     requires { ⌜ PlanesCut panel (now rom) (now graphic) (now codes) (now glyphs) (now frame) ⌝ }
-    ensures { λ r. ⌜ reported r (now (out .exit)) ≡ drawTextOf (now (rom .entry)) (now (input .entry)) (now (out .entry)) ⌝ }
+    ensures { λ r. ⌜ reported r (now (out .exit)) ≡ drawTextOf dual (now (rom .entry)) (now (input .entry)) (now (out .entry)) ⌝ }
 {
     let number = byte_in(input, 3) as usize;
     let phase = byte_in(input, 4) != 0;
@@ -55,20 +56,21 @@ fn print_screen(
 }
 
 // The program's whole text at the start of `out`, its length and the screen's number; nothing where the room has another length than
-// 131,072. Planes and frame are the parts of the largest ones that the panel takes.
-fn draw_text(rom: &[u8], input: &[u8], out: &mut [u8]) -> Told
+// 196,608. Planes and frame are the parts of the largest ones that the panel takes.
+fn draw_text(dual: bool, rom: &[u8], input: &[u8], out: &mut [u8]) -> Told
     requires { ⌜ length (now rom) ≡ 1024 ⌝ }
-    ensures { λ r. ⌜ reported r (now (out .exit)) ≡ drawTextOf (now (rom .entry)) (now (input .entry)) (now (out .entry)) ⌝ }
+    ensures { λ r. ⌜ reported r (now (out .exit)) ≡ drawTextOf dual (now (rom .entry)) (now (input .entry)) (now (out .entry)) ⌝ }
 {
-    let panel = panel_in(input);
+    let panel = panel_in(input, dual);
     let size = panel.cell_count();
     let rows = 8 * size;
     let bytes = panel.frame_size();
-    let mut graphic = [0u8; 10240];
-    let mut codes = [0u8; 1280];
+    let mut graphic = [0u8; 20480];
+    let mut codes = [0u8; 2560];
     let mut glyphs = [0u8; 1024];
-    let mut frame = [0u8; 10240];
+    let mut frame = [0u8; 20480];
     print_screen(
+        dual,
         input,
         panel,
         rom,
@@ -101,8 +103,9 @@ fn main() {
         return;
     }
     let end = got.count;
-    let mut out = [0u8; 131072];
-    let told = draw_text(&rom, &input[..end], &mut out);
+    let mut out = [0u8; 196608];
+    let dual = os::arg_count() > 2;
+    let told = draw_text(dual, &rom, &input[..end], &mut out);
     let count = told.count;
     if io::write_all(STDOUT_FILENO, &out[..count]) {
         report(told.number);

@@ -175,7 +175,7 @@ fn put_layers(
 
 // The run's line, as the log program has it, then the layers; on refusals 1 and 8 the line only.
 fn show(rom: &[u8], input: &[u8]) -> Shown {
-    let panel = panel_in(input);
+    let panel = panel_in(input, os::arg_count() > 2);
     let row = byte_in(input, 3) as usize;
     let column = byte_in(input, 4) as usize;
     let log = rest_in(input, 5);

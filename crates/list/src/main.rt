@@ -195,7 +195,7 @@ fn main() {
         return;
     }
     let end = got.count;
-    let panel = panel_in(&head[..end]);
+    let panel = panel_in(&head[..end], os::arg_count() > 1);
     if !panel.valid() {
         report(1);
         return;

@@ -12,7 +12,7 @@ fn main() {
         return;
     }
     let end = got.count;
-    let mut out = [0u8; 131072];
+    let mut out = [0u8; 196608];
     let told = print(&input[..end], &mut out);
     let count = told.count;
     if io::write_all(STDOUT_FILENO, &out[..count]) {

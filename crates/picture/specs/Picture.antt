@@ -2,6 +2,7 @@
 use Prim.Native.Nat.{ℕ, zero, suc, _+_, _-_, _*_, _/_, _%_, _^_}
 use mathlib.Core.Bool.{Bool, true, false, cond, _&&_}
 use mathlib.Core.List.{List, [], _∷_}
+use lib.Dec.{ltb, leb, eqb}
 use lib.ListN.{getD, set, replicate}
 use lib.Seq.{sets}
 use Rattle.ground.specs.Bytes.{withBit}
@@ -10,8 +11,9 @@ use Rattle.ground.specs.Packing.{frameFrom}
 use Rattle.state.specs.declared.panel.Panel.{Panel}
 use Rattle.state.specs.declared.registers.Combination.{Combination}
 use Rattle.state.specs.declared.registers.Combination.the-variants.{Or}
+use Rattle.state.specs.declared.registers.Cursor.{Cursor}
 use Rattle.state.specs.Combination.{combined}
-use Rattle.display.specs.Displayed.{cursorLit, cursorCovers}
+use Rattle.display.specs.Displayed.{cursorLit}
 use Rattle.book.specs.Operation.{Operation, text, rectangle, dot, glyph, cursor, combine, dotByte, dotBit}
 use Rattle.picture.specs.Layers.{planeText, planeGraphic}
 use Rattle.picture.specs.declared.cursor.Laid.{Laid}
@@ -76,9 +78,14 @@ abbrev pub litIn : Laid → Bool → Bool
 litIn Nowhere normal = false
 litIn (Over k blink) normal = cursorLit true blink normal
 
+-- the cell of the cursor's line and column, in its lowest rows, as many as its height (H)
+abbrev pub cursorOver : Panel → Cursor → ℕ → ℕ → ℕ → Bool
+cursorOver p k l v c =
+    ltb (k .x) (p .columns) && ltb (k .y) (p .lines) && eqb (k .x) c && eqb (k .y) l && leb (8 - k .height) v
+
 abbrev pub coveredBy : Panel → Laid → ℕ → ℕ → ℕ → Bool
 coveredBy p Nowhere l v c = false
-coveredBy p (Over k blink) l v c = cursorCovers p k l v c
+coveredBy p (Over k blink) l v c = cursorOver p k l v c
 
 -- the combination and cursor rules of a displayed byte, both layers on
 unfoldable pub pictureCell : Panel → List ℕ → Picture → Bool → ℕ → ℕ → ℕ

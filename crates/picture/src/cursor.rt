@@ -1,12 +1,11 @@
 // The cursor of a picture.
 ghost use mathlib.Core.Path.{_≡_};
 ghost use Prim.Native.Nat.{_<_};
-ghost use Rattle.display.specs.Displayed.{cursorCovers};
-ghost use Rattle.picture.specs.Picture.{litIn, coveredBy};
+ghost use Rattle.picture.specs.Picture.{litIn, cursorOver, coveredBy};
 use state::panel::Panel;
 use state::registers::Cursor;
 
-// None, or a cursor that blinks or does not.
+// None, or a cursor that blinks or does not: its column for X, its line for Y.
 pub enum Laid {
     Nowhere,
     Over(Cursor, bool),
@@ -38,7 +37,7 @@ impl Laid {
 // A cursor on the panel: its cell, and there the lowest rows, as many as its height.
 fn reaches(cursor: Cursor, panel: Panel, line: usize, v: usize, column: usize) -> bool
     requires { ⌜ v < 8 ⌝ }
-    ensures { λ r. ⌜ r ≡ cursorCovers panel cursor line v column ⌝ }
+    ensures { λ r. ⌜ r ≡ cursorOver panel cursor line v column ⌝ }
 {
     let x = cursor.x as usize;
     let y = cursor.y as usize;

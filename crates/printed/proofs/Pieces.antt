@@ -25,4 +25,4 @@ answers-within given answers out h =
 pub rows-within : (p : Panel) (frame out : List ℕ) {w : ℕ} {b : List ℕ} → printed w b ≡ printRowsOf p frame out → w ≤ length b
 unfolding printRowsOf
 rows-within p frame out h =
-    printed-within (validPanel p && frameFits p frame && eqb (length out) 131072) (frameLines p frame) out h
+    printed-within (validPanel p && frameFits p frame && eqb (length out) 196608) (frameLines p frame) out h

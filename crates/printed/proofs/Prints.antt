@@ -53,7 +53,7 @@ log-is l {s} {e} i j = go (decLt (length l) 3) (decLt (length l) 16387)
         λ q. take (b q - a q) (drop (a q) l)
 
 -- a valid panel's bytes are all there
-pub panel-whole : (input : List ℕ) {p : Panel} → p ≡ panelIn input → validPanel p ≡ true → 3 ≤ length input
+pub panel-whole : (input : List ℕ) {p : Panel} → p ≡ panelIn false input → validPanel p ≡ true → 3 ≤ length input
 panel-whole input {p} i v = go (decLt (length input) 3)
   where
     wide : 6 ≤ p .width
@@ -78,8 +78,8 @@ module _ (p : Panel) (q : Panelled p) where
   pub dots-few : p .columns * p .width ≤ 640
   dots-few = mul-le-mul {n₂ = 80} {m₂ = 8} (q .columns) (narrow q)
 
-  pub lines-few : 8 * p .lines * (p .columns * p .width + 1) ≤ 82048
-  lines-few = mul-le-mul {n₂ = 128} {m₂ = 641} (omega (arith, q .lines)) (omega (arith, dots-few))
+  pub lines-few : 8 * p .lines * (p .columns * p .width + 1) ≤ 164096
+  lines-few = mul-le-mul {n₂ = 256} {m₂ = 641} (omega (arith, q .lines)) (omega (arith, dots-few))
 
 -- past the doors a painting is the frame
 pub drawn : {p : Panel} {r : Registers} {mem rom frame out : List ℕ} {at : ℕ} → FrameReady p r mem rom frame out at
@@ -138,7 +138,7 @@ frame-lines-length p frame =
     joined-length (8 * p .lines) (p .columns * p .width + 1) (frameLine p frame) (λ r. dot-line-length frame (r * rowBytes (p .columns) (p .width)) (p .columns * p .width))
 
 -- the run of the input's log
-pub ran-is : (input : List ℕ) {p : Panel} {r : Registers} {mem rom log answers : List ℕ} {e : RanAll} → p ≡ panelIn input → r ≡ resetRegisters → mem ≡ zeros 65536
+pub ran-is : (input : List ℕ) {p : Panel} {r : Registers} {mem rom log answers : List ℕ} {e : RanAll} → p ≡ panelIn false input → r ≡ resetRegisters → mem ≡ zeros 65536
     → rom ≡ characters → log ≡ logIn input → answers ≡ zeros 8192 → e ≡ runOf p r mem rom log (length log / 2) answers → e ≡ ranIn input
 unfolding ranIn
 ran-is input i j m c l a e = e ∙ (λ k. runOf (i k) (j k) (m k) (c k) (l k) (length (l k) / 2) (a k))
@@ -147,10 +147,10 @@ pub zeros-length : (n : ℕ) → length (zeros n) ≡ n
 unfolding zeros
 zeros-length n = length-replicate n 0
 
-pub ran-came : (input : List ℕ) → Came (panelIn input) (ranIn input)
+pub ran-came : (input : List ℕ) → Came (panelIn false input) (ranIn input)
 unfolding ranIn
 ran-came input =
-    run-came (panelIn input) resetRegisters (zeros 65536) characters (logIn input) (length (logIn input) / 2) (zeros 8192) refl (zeros-length 65536)
+    run-came (panelIn false input) resetRegisters (zeros 65536) characters (logIn input) (length (logIn input) / 2) (zeros 8192) refl (zeros-length 65536)
 
 pub zeros-are : (n : ℕ) → replicate n 0 ≡ zeros n
 unfolding zeros
@@ -168,14 +168,14 @@ pub record Rooms (mem rom answers frame out : List ℕ) : Type 0 where
   pub memory : length mem ≡ 65536
   pub characters : length rom ≡ 1024
   pub answered : length answers ≡ 8192
-  pub framed : length frame ≡ 10240
-  pub roomy : length out ≡ 131072
+  pub framed : length frame ≡ 20480
+  pub roomy : length out ≡ 196608
 
 -- the run's text may be written
-pub ready : (input : List ℕ) {p : Panel} {a : Ran} {mem rom answers frame out : List ℕ} → p ≡ panelIn input → ranAll a mem answers ≡ ranIn input
+pub ready : (input : List ℕ) {p : Panel} {a : Ran} {mem rom answers frame out : List ℕ} → p ≡ panelIn false input → ranAll a mem answers ≡ ranIn input
     → Rooms mem rom answers frame out → TextReady p a mem rom answers frame out
 ready input {p} {a} {mem} {rom} {answers} i e l =
-    let came : Came p (ranAll a mem answers) = subst (λ (q : Panel). Came q (ranAll a mem answers)) (sym i) (subst (λ (o : RanAll). Came (panelIn input) o) (sym e) (ran-came input)) in
+    let came : Came p (ranAll a mem answers) = subst (λ (q : Panel). Came q (ranAll a mem answers)) (sym i) (subst (λ (o : RanAll). Came (panelIn false input) o) (sym e) (ran-came input)) in
     record {
       valid = came .valid;
       lent = both (eq-eqb (length mem) 65536 (l .memory)) (eq-eqb (length rom) 1024 (l .characters));
@@ -186,25 +186,25 @@ ready input {p} {a} {mem} {rom} {answers} i e l =
     }
 
 module _ (input out : List ℕ) where
-  pub print-none : (length out ≡ 131072 → ⊥) → reported (record { count = 0; number = 2 }) out ≡ printOf input out
+  pub print-none : (length out ≡ 196608 → ⊥) → reported (record { count = 0; number = 2 }) out ≡ printOf input out
   unfolding printOf
   print-none h =
-      let e = ne-eqb (length out) 131072 h in
-      λ k. record { text = printed-none (eqb (length out) 131072) (logText input) out e k; number = cond (sym e k) (ranIn input .ran .number) 2 }
+      let e = ne-eqb (length out) 196608 h in
+      λ k. record { text = printed-none (eqb (length out) 196608) (logText input) out e k; number = cond (sym e k) (ranIn input .ran .number) 2 }
 
-  pub print-all : length out ≡ 131072 → {p : Panel} {c : List ℕ} {e : RanAll} → p ≡ panelIn input → c ≡ characters → e ≡ ranIn input
-      → {b : List ℕ} {w : ℕ} → TextPut out 0 (textOf p c e) b w → w ≤ 131072 → reported (record { count = w; number = e .ran .number }) b ≡ printOf input out
+  pub print-all : length out ≡ 196608 → {p : Panel} {c : List ℕ} {e : RanAll} → p ≡ panelIn false input → c ≡ characters → e ≡ ranIn input
+      → {b : List ℕ} {w : ℕ} → TextPut out 0 (textOf p c e) b w → w ≤ 196608 → reported (record { count = w; number = e .ran .number }) b ≡ printOf input out
   unfolding printOf logText
   print-all h i j l x s =
-      let r = eq-eqb (length out) 131072 h in
-      let t = printed-all (eqb (length out) 131072) (logText input) out r (put-same (λ k. textOf (i k) (j k) (l k)) x) (omega arith) in
+      let r = eq-eqb (length out) 196608 h in
+      let t = printed-all (eqb (length out) 196608) (logText input) out r (put-same (λ k. textOf (i k) (j k) (l k)) x) (omega arith) in
       let n = ap (λ (o : RanAll). o .ran .number) l ∙ (λ k. cond (sym r k) (ranIn input .ran .number) 2) in
       λ k. record { text = t k; number = n k }
 
   -- the text stands in its room
   pub print-within : {t : Told} {b : List ℕ} → reported t b ≡ printOf input out → t .count ≤ length b
   unfolding printOf
-  print-within h = printed-within (eqb (length out) 131072) (logText input) out (ap (λ (o : Reported). o .text) h)
+  print-within h = printed-within (eqb (length out) 196608) (logText input) out (ap (λ (o : Reported). o .text) h)
 
 -- not refused by 1
 pub not-first : (a b : Bool) → (a || b) ≡ false → a ≡ false

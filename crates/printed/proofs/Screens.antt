@@ -74,20 +74,20 @@ cut n m h = length-take-le n (replicate m 0) (omega (arith, length-replicate {0}
 
 -- any line, with the rows behind it
 module _ (p : Panel) (number : ℕ) (frame out line : List ℕ) {t : Bool} (i : t ≡ framed p number frame) where
-  lent-is : (v : Bool) → (t && eqb (length out) 131072) ≡ v → lentScreen p number frame out ≡ v
-  lent-is v h = ap (λ (b : Bool). b && eqb (length out) 131072) (sym i) ∙ h
+  lent-is : (v : Bool) → (t && eqb (length out) 196608) ≡ v → lentScreen p number frame out ≡ v
+  lent-is v h = ap (λ (b : Bool). b && eqb (length out) 196608) (sym i) ∙ h
 
-  pub screen-none : (t && eqb (length out) 131072) ≡ false → printed 0 out ≡ printText (lentScreen p number frame out) (line ++ screenLines p number frame) out
+  pub screen-none : (t && eqb (length out) 196608) ≡ false → printed 0 out ≡ printText (lentScreen p number frame out) (line ++ screenLines p number frame) out
   screen-none h = printed-none (lentScreen p number frame out) (line ++ screenLines p number frame) out (lent-is false h)
 
-  module _ (h : (t && eqb (length out) 131072) ≡ true) where
-    pub screen-room : length out ≡ 131072
-    screen-room = eqb-true (length out) 131072 (both-right t _ h)
+  module _ (h : (t && eqb (length out) 196608) ≡ true) where
+    pub screen-room : length out ≡ 196608
+    screen-room = eqb-true (length out) 196608 (both-right t _ h)
 
     pub screen-ready : {b : List ℕ} {w : ℕ} → TextPut out 0 line b w → w ≤ 112 → Lines p number frame b w
     screen-ready x s = record { framed = sym i ∙ both-left t _ h; behind = s; roomy = put-length x ∙ screen-room }
 
-    pub screen-all : {b c : List ℕ} {w e : ℕ} → TextPut out 0 line b w → TextPut b w (screenLines p number frame) c e → e ≤ 131072
+    pub screen-all : {b c : List ℕ} {w e : ℕ} → TextPut out 0 line b w → TextPut b w (screenLines p number frame) c e → e ≤ 196608
         → printed e c ≡ printText (lentScreen p number frame out) (line ++ screenLines p number frame) out
     screen-all x y s =
         printed-all (lentScreen p number frame out) (line ++ screenLines p number frame) out (lent-is true h) (put-both x y)

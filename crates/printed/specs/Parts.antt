@@ -19,6 +19,6 @@ unfoldable pub printAnswersOf : ℕ → List ℕ → List ℕ → Printed
 printAnswersOf given answers out =
     printText (leb given (length answers) && leb given (length out / 3)) (hexLines given answers) out
 
--- lent: a frame of its panel's length, 131,072 bytes of text
+-- lent: a frame of its panel's length, 196,608 bytes of text
 unfoldable pub printRowsOf : Panel → List ℕ → List ℕ → Printed
-printRowsOf p frame out = printText (validPanel p && frameFits p frame && eqb (length out) 131072) (frameLines p frame) out
+printRowsOf p frame out = printText (validPanel p && frameFits p frame && eqb (length out) 196608) (frameLines p frame) out

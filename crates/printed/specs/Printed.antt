@@ -1,6 +1,6 @@
 -- 01, Bench points: what the log program prints.
 use Prim.Native.Nat.{ℕ, _+_, _*_, _/_, _%_}
-use mathlib.Core.Bool.{Bool, cond, _||_}
+use mathlib.Core.Bool.{Bool, false, cond, _||_}
 use mathlib.Core.List.{List, _++_}
 use lib.Dec.{eqb}
 use lib.ListN.{length, getD, take, drop}
@@ -14,9 +14,9 @@ use Rattle.controller.specs.Run.{RanAll, runOf}
 use Rattle.printed.specs.declared.told.Told.{Told}
 use Rattle.printed.specs.Text.{ascii, newline, decimal, hexLines, dotLine}
 
--- C, L, w; a missing panel byte counts as 0
-abbrev pub panelIn : List ℕ → Panel
-panelIn input = record { columns = getD input 0 0; lines = getD input 1 0; width = getD input 2 0 }
+-- C, L, w; a missing panel byte counts as 0; whether it is in two halves is no byte of the input (02, Req 08)
+abbrev pub panelIn : Bool → List ℕ → Panel
+panelIn dual input = record { columns = getD input 0 0; lines = getD input 1 0; width = getD input 2 0; dual = dual }
 
 -- then at most 16,384 log bytes; bytes past the limit are not used
 abbrev pub logIn : List ℕ → List ℕ
@@ -32,7 +32,7 @@ characters = build 1024 characterRow
 -- the log's whole pairs, from reset on zero memory; an answer buffer that always has room
 unfoldable pub ranIn : List ℕ → RanAll
 ranIn input =
-    runOf (panelIn input) resetRegisters (zeros 65536) characters (logIn input) (length (logIn input) / 2) (zeros 8192)
+    runOf (panelIn false input) resetRegisters (zeros 65536) characters (logIn input) (length (logIn input) / 2) (zeros 8192)
 
 -- refusal and place
 unfoldable pub refusalLine : ℕ → ℕ → List ℕ
@@ -61,7 +61,7 @@ textOf p rom e =
     ++ frameLines p (frameOf p (e .ran .registers .display) (e .memory) rom))
 
 unfoldable pub logText : List ℕ → List ℕ
-logText input = textOf (panelIn input) characters (ranIn input)
+logText input = textOf (panelIn false input) characters (ranIn input)
 
 -- the bytes of text, and the lent room for it
 pub record Printed : Type 0 where
@@ -83,10 +83,10 @@ pub record Reported : Type 0 where
 abbrev pub reported : Told → List ℕ → Reported
 reported r out = record { text = printed (r .count) out; number = r .number }
 
--- lent: 131,072 bytes of text, which suffice; else nothing is printed, and the number is 2
+-- lent: 196,608 bytes of text, which suffice; else nothing is printed, and the number is 2
 unfoldable pub printOf : List ℕ → List ℕ → Reported
 printOf input out =
     record {
-      text = printText (eqb (length out) 131072) (logText input) out;
-      number = cond (eqb (length out) 131072) (ranIn input .ran .number) 2;
+      text = printText (eqb (length out) 196608) (logText input) out;
+      number = cond (eqb (length out) 196608) (ranIn input .ran .number) 2;
     }

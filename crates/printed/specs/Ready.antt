@@ -25,11 +25,11 @@ pub record TextReady (p : Panel) (a : Ran) (mem rom answers frame out : List ℕ
   pub lent : lentLengths mem rom ≡ true
   pub given : a .answers ≤ length answers
   pub answered : length answers ≡ 8192
-  pub framed : length frame ≡ 10240
-  pub roomy : length out ≡ 131072
+  pub framed : length frame ≡ 20480
+  pub roomy : length out ≡ 196608
 
 -- a screen's rows may be written behind its line
 pub record Lines (p : Panel) (number : ℕ) (frame out : List ℕ) (at : ℕ) : Type 0 where
   pub framed : framed p number frame ≡ true
   pub behind : at ≤ 112
-  pub roomy : length out ≡ 131072
+  pub roomy : length out ≡ 196608

@@ -25,9 +25,9 @@ rehearsalText p pairs number place frame = firstLine pairs 0 number place ++ scr
 abbrev pub framed : Panel → ℕ → List ℕ → Bool
 framed p number frame = cond (eqb number 0) (validPanel p && frameFits p frame) true
 
--- lent: 131,072 bytes of text, which suffice
+-- lent: 196,608 bytes of text, which suffice
 abbrev pub lentScreen : Panel → ℕ → List ℕ → List ℕ → Bool
-lentScreen p number frame out = framed p number frame && eqb (length out) 131072
+lentScreen p number frame out = framed p number frame && eqb (length out) 196608
 
 unfoldable pub printPictureOf : Panel → ℕ → ℕ → List ℕ → List ℕ → Printed
 printPictureOf p number place frame out = printText (lentScreen p number frame out) (pictureText p number place frame) out

@@ -12,13 +12,15 @@ pub fn byte_in(input: &[u8], at: usize) -> u8
     if at < input.len() { input[at] } else { 0 }
 }
 
-pub fn panel_in(input: &[u8]) -> Panel
-    ensures { λ r. ⌜ r ≡ panelIn (now (input .entry)) ⌝ }
+// C, L, w; that it is in two halves is said beside them.
+pub fn panel_in(input: &[u8], dual: bool) -> Panel
+    ensures { λ r. ⌜ r ≡ panelIn dual (now (input .entry)) ⌝ }
 {
     Panel {
         columns: byte_in(input, 0) as usize,
         lines: byte_in(input, 1) as usize,
         width: byte_in(input, 2) as usize,
+        dual,
     }
 }
 

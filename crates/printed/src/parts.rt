@@ -35,7 +35,7 @@ pub fn print_answers(given: usize, answers: &[u8], out: &mut [u8]) -> usize
 pub fn print_rows(panel: Panel, frame: &[u8], out: &mut [u8]) -> usize
     ensures { λ r. ⌜ printed r (now (out .exit)) ≡ printRowsOf panel (now (frame .entry)) (now (out .entry)) ⌝ }
 {
-    let fits = is_framed(panel, 0, frame) & (out.len() == 131072);
+    let fits = is_framed(panel, 0, frame) & (out.len() == 196608);
     if fits {
         put_screen(panel, 0, frame, out, 0)
     } else {

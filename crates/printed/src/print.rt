@@ -51,7 +51,7 @@ fn put_ran(
 ) -> usize
     requires { ⌜ TextReady panel ran (now memory) (now rom) (now answers) (now frame) (now out) ⌝ }
     ensures { λ r. ⌜ TextPut (now (out .entry)) 0 (textOf panel (now (rom .entry)) (ranAll ran (now (memory .entry)) (now (answers .entry)))) (now (out .exit)) r ⌝ }
-    ensures { λ r. ⌜ r ≤ 131072 ⌝ }
+    ensures { λ r. ⌜ r ≤ 196608 ⌝ }
 {
     let at = put_first_line(out, ran.taken, ran.answers, ran.number, ran.place);
     if (ran.number == 1) | (ran.number == 8) {
@@ -68,23 +68,23 @@ fn run_log(input: &[u8], memory: &mut [u8], rom: &[u8], answers: &mut [u8]) -> R
     requires { ⌜ (now memory ≡ zeros 65536) × (now rom ≡ characters) × (now answers ≡ zeros 8192) ⌝ }
     ensures { λ r. ⌜ ranAll r (now (memory .exit)) (now (answers .exit)) ≡ ranIn (now (input .entry)) ⌝ }
 {
-    let panel = panel_in(input);
+    let panel = panel_in(input, false);
     let log = log_in(input);
     let registers = Registers::reset();
     run(panel, registers, memory, rom, log, log.len() / 2, answers)
 }
 
-// The whole text at the start of `out`, its length and the run's number; 0 and 2 where the room has another length than 131,072.
+// The whole text at the start of `out`, its length and the run's number; 0 and 2 where the room has another length than 196,608.
 pub fn print(input: &[u8], out: &mut [u8]) -> Told
     ensures { λ r. ⌜ reported r (now (out .exit)) ≡ printOf (now (input .entry)) (now (out .entry)) ⌝ }
 {
-    if out.len() == 131072 {
+    if out.len() == 196608 {
         let mut memory = empty_memory();
         let rom = character_rom();
         let mut answers = no_answers();
-        let mut frame = [0u8; 10240];
+        let mut frame = [0u8; 20480];
         let ran = run_log(input, &mut memory, &rom, &mut answers);
-        let panel = panel_in(input);
+        let panel = panel_in(input, false);
         let count = put_ran(panel, ran, &memory, &rom, &answers, &mut frame, out);
         Told {
             count,

@@ -137,7 +137,7 @@ fn put_dot_line(out: &mut [u8], at: usize, frame: &[u8], from: usize, dots: usiz
 
 // Every row of a frame.
 pub(crate) fn put_frame_lines(out: &mut [u8], at: usize, panel: Panel, frame: &[u8]) -> usize
-    requires { ⌜ (panel .lines ≤ 16) × (panel .columns * panel .width ≤ 640) ⌝ }
+    requires { ⌜ (panel .lines ≤ 32) × (panel .columns * panel .width ≤ 640) ⌝ }
     requires { ⌜ at + 8 * panel .lines * (panel .columns * panel .width + 1) ≤ length (now out) ⌝ }
     requires { ⌜ length (now frame) ≡ 8 * panel .lines * rowBytes (panel .columns) (panel .width) ⌝ }
     ensures { λ r. ⌜ TextPut (now (out .entry)) at (frameLines panel (now (frame .entry))) (now (out .exit)) r ⌝ }

@@ -29,7 +29,7 @@ pub(crate) fn is_framed(panel: Panel, number: u8, frame: &[u8]) -> bool
 pub(crate) fn put_screen(panel: Panel, number: u8, frame: &[u8], out: &mut [u8], at: usize) -> usize
     requires { ⌜ Lines panel number (now frame) (now out) at ⌝ }
     ensures { λ r. ⌜ TextPut (now (out .entry)) at (screenLines panel number (now (frame .entry))) (now (out .exit)) r ⌝ }
-    ensures { λ r. ⌜ r ≤ 131072 ⌝ }
+    ensures { λ r. ⌜ r ≤ 196608 ⌝ }
 {
     if number != 0 {
         return at;
@@ -41,7 +41,7 @@ pub(crate) fn put_screen(panel: Panel, number: u8, frame: &[u8], out: &mut [u8],
 pub fn print_picture(panel: Panel, number: u8, place: usize, frame: &[u8], out: &mut [u8]) -> usize
     ensures { λ r. ⌜ printed r (now (out .exit)) ≡ printPictureOf panel number place (now (frame .entry)) (now (out .entry)) ⌝ }
 {
-    let fits = is_framed(panel, number, frame) & (out.len() == 131072);
+    let fits = is_framed(panel, number, frame) & (out.len() == 196608);
     if fits {
         let line = put_refusal(out, 0, number, place);
         put_screen(panel, number, frame, out, line)
@@ -61,7 +61,7 @@ pub fn print_rehearsal(
 ) -> usize
     ensures { λ r. ⌜ printed r (now (out .exit)) ≡ printRehearsalOf panel pairs number place (now (frame .entry)) (now (out .entry)) ⌝ }
 {
-    let fits = is_framed(panel, number, frame) & (out.len() == 131072);
+    let fits = is_framed(panel, number, frame) & (out.len() == 196608);
     if fits {
         let at = put_first_line(out, pairs, 0, number, place);
         put_screen(panel, number, frame, out, at)

@@ -38,7 +38,7 @@ module _ (p : Panel) (twenty : p .columns ≡ 20) where
   at-13H : 1 ≤ p .lines → positionOf p (record { home = 0; area = 32 }) 0x13 ≡ At 0 0x13
   at-13H h = position-at p (record { home = 0; area = 32 }) 0x13 0 0x13 (omega arith) (omega arith) (λ i j m n e. omega arith) (λ j m e. omega arith) refl
 
-  at-14H : p .lines ≤ 16 → positionOf p (record { home = 0; area = 32 }) 0x14 ≡ Nowhere
+  at-14H : p .lines ≤ 32 → positionOf p (record { home = 0; area = 32 }) 0x14 ≡ Nowhere
   at-14H h = position-none p (record { home = 0; area = 32 }) 0x14 (λ r c l k e. omega arith)
 
 pub bench-points : (p : Panel) (rom mem : List ℕ) (r : Registers) → BenchPoints p rom mem r

@@ -1,13 +1,13 @@
 -- The machine that shows a picture has the picture's cells, in either phase, and so its frame.
-use mathlib.Core.Path.{_≡_, refl, ap, _∙_}
+use mathlib.Core.Path.{_≡_, refl, ap, sym, _∙_}
 use mathlib.Core.Bool.{Bool, true, false, cond, _&&_}
 use mathlib.Core.List.{List}
 use Prim.Native.Nat.{ℕ, _+_, _-_, _*_, _/_, _%_, _^_, _≤_, _<_}
 use native.Mathlib.Nat.{mul-le-mul-right}
 use native.Mathlib.Omega.{arith}
-use lib.Dec.{ltb}
+use lib.Dec.{ltb, leb, eqb}
 use lib.ListN.{getD}
-use borrow.Author.Tests.{ltb-false}
+use borrow.Author.Tests.{ltb-false, lt-ltb}
 use Rattle.state.specs.declared.panel.Panel.{Panel}
 use Rattle.state.specs.declared.registers.Cursor.{Cursor}
 use Rattle.state.specs.declared.registers.Display.{Display}
@@ -19,6 +19,7 @@ use Rattle.display.proofs.Painted.{frame-by-rule}
 use Rattle.display.proofs.Plain.{plain, plainGlyph, cell-plain}
 use Rattle.effects.specs.Effect.{withPhase}
 use Rattle.writer.specs.Homes.{graphicHome, textHome, glyphHome}
+use Rattle.state.proofs.Halves.{y-same}
 use Rattle.state.proofs.Sizes.{some-width}
 use Rattle.writer.proofs.Apart.{graphic-below-text, text-below-glyphs}
 use Rattle.picture.specs.declared.cursor.Laid.{Laid}
@@ -26,12 +27,15 @@ use Rattle.picture.specs.declared.cursor.Laid.the-variants.{Nowhere, Over}
 use Rattle.picture.specs.Picture.{Picture, litIn, coveredBy, pictureCell, pictureFrame}
 use Rattle.picture.specs.Layers.{glyphIn, planeText, planeGraphic}
 use Rattle.rehearsal.proofs.Areas.{laid, graphic-at, text-at, glyph-at}
-use Rattle.rehearsal.proofs.Simulated.{cursorOn, cursorBlinks, cursorIn, planeAt, displayFor, Shape}
+use Rattle.rehearsal.proofs.Simulated.{cursorOn, cursorBlinks, cursorIn, LaidOn, planeAt, displayFor, Shape}
 
-cursor-same : (p : Panel) (found : Cursor) (k : Laid) (phase : Bool) (l v c : ℕ)
-    → (cursorLit (cursorOn k) (cursorBlinks k) phase && cursorCovers p (cursorIn found k) l v c) ≡ (litIn k phase && coveredBy p k l v c)
-cursor-same p found Nowhere phase l v c = refl
-cursor-same p found (Over k blink) phase l v c = refl
+-- the cursor's Y stands for its line and no other
+cursor-same : (p : Panel) → validPanel p ≡ true → (found : Cursor) (k : Laid) (phase : Bool) (l v c : ℕ) → LaidOn p k → l < p .lines
+    → (cursorLit (cursorOn k) (cursorBlinks k) phase && cursorCovers p (cursorIn p found k) l v c) ≡ (litIn k phase && coveredBy p k l v c)
+cursor-same p valid found Nowhere phase l v c on h = refl
+cursor-same p valid found (Over k blink) phase l v c on h =
+    let same : ltb l (p .lines) ≡ ltb (k .y) (p .lines) = lt-ltb l (p .lines) h ∙ sym (lt-ltb (k .y) (p .lines) on) in
+    λ i. cursorLit true blink phase && (ltb (k .x) (p .columns) && same i && eqb (k .x) c && y-same p valid (k .y) l on h i && leb (8 - k .height) v)
 
 module _ (p : Panel) (v : validPanel p ≡ true) (g h : List ℕ) (a : Picture) (s : Shape p g h a) where
   abbrev mem : List ℕ
@@ -67,8 +71,8 @@ module _ (p : Panel) (v : validPanel p ≡ true) (g h : List ℕ) (a : Picture) 
     unfolding displayFor pictureCell planeText planeGraphic
     cell-same r c i j =
         let w : ℕ = 2 ^ p .width in
-        cell-plain p (planeAt (textHome p) p) (planeAt graphicHome p) 0x1f (a .combination) (cursorOn (a .cursor)) (cursorBlinks (a .cursor)) (cursorIn (d .cursor) (a .cursor)) phase mem rom r c (s .plain)
-        ∙ (λ t. cond (cursor-same p (d .cursor) (a .cursor) phase (r / 8) (r % 8) c t) (w - 1)
+        cell-plain p (planeAt (textHome p) p) (planeAt graphicHome p) 0x1f (a .combination) (cursorOn (a .cursor)) (cursorBlinks (a .cursor)) (cursorIn p (d .cursor) (a .cursor)) phase mem rom r c (s .plain)
+        ∙ (λ t. cond (cursor-same p v (d .cursor) (a .cursor) phase (r / 8) (r % 8) c (s .laid-on) (omega arith) t) (w - 1)
         (combined (a .combination)
         ((ap (λ (k : ℕ). plainGlyph 0x1f mem rom k (r % 8)) (code-same (r / 8) c (omega arith) j) ∙ glyph-same rom (getD (a .codes) (r / 8 * p .columns + c) 0) (r % 8)) t % w)
         (graphic-same r c i j t % w)))

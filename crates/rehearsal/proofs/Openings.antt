@@ -108,6 +108,7 @@ module _ (p : Panel) (v : validPanel p ≡ true) (m : List ℕ) where
           graphic = simp length-take (omega (arith, graphic-below, text-below));
           codes = simp (length-take, length-drop) (omega (arith, text-below));
           plain = refl;
+          laid-on = tt;
         }
 
     module _ (rom : List ℕ) (r : Registers) where

@@ -3,7 +3,7 @@ use mathlib.Core.Path.{_≡_, refl, ap, subst, _∙_}
 use mathlib.Core.Bool.{Bool, true, false, cond}
 use mathlib.Core.List.{List, [], _++_}
 use Prim.Native.Nat.{ℕ, zero, suc, _+_, _-_, _*_, _/_, _%_, _≤_, _<_}
-use native.Mathlib.Nat.{mul-le-mul-right, div-lt-iff-lt-mul}
+use native.Mathlib.Nat.{mul-le-mul-right, div-lt-iff-lt-mul, mod-eq-of-lt}
 use native.Mathlib.Omega.{arith}
 use lib.ListN.{length, getD, set, take, drop, replicate, length-replicate, length-set}
 use lib.Seq.{sets, length-sets}
@@ -36,6 +36,8 @@ use Rattle.book.proofs.Walking.{walk-all}
 use Rattle.writer.specs.Homes.{graphicHome, textHome, glyphHome}
 use Rattle.writer.specs.Stream.{pointTo, block, rowBlocks, combinationCode, operationPairs, bodyPairs}
 use Rattle.writer.proofs.Lengths.{part-length}
+use Rattle.state.specs.Halves.{cursorY}
+use Rattle.state.proofs.Halves.{y-few}
 use Rattle.state.proofs.Sizes.{some-width, columns-few, lines-few}
 use Rattle.book.proofs.Places.{bit-few}
 use Rattle.picture.specs.declared.cursor.Laid.{Laid}
@@ -51,10 +53,15 @@ abbrev pub cursorBlinks : Laid → Bool
 cursorBlinks Nowhere = false
 cursorBlinks (Over k blink) = blink
 
--- with none laid the cursor registers are as they were found
-abbrev pub cursorIn : Cursor → Laid → Cursor
-cursorIn found Nowhere = found
-cursorIn found (Over k blink) = k
+-- with none laid the cursor registers are as they were found; else Y is the line's
+abbrev pub cursorIn : Panel → Cursor → Laid → Cursor
+cursorIn p found Nowhere = found
+cursorIn p found (Over k blink) = record { x = k .x; y = cursorY p (k .y); height = k .height }
+
+-- a cursor laid stands on a line of the panel
+abbrev pub LaidOn : Panel → Laid → Type 0
+LaidOn p Nowhere = Unit {0}
+LaidOn p (Over k blink) = k .y < p .lines
 
 abbrev pub planeAt : ℕ → Panel → Plane
 planeAt home p = record { home = home; area = p .columns }
@@ -62,19 +69,20 @@ planeAt home p = record { home = home; area = p .columns }
 -- the display group that shows a picture; d has what a screen leaves alone
 unfoldable pub displayFor : Panel → Display → Picture → Display
 displayFor p d a =
-    plain (planeAt (textHome p) p) (planeAt graphicHome p) 0x1f (a .combination) (cursorOn (a .cursor)) (cursorBlinks (a .cursor)) (cursorIn (d .cursor) (a .cursor)) (d .phase)
+    plain (planeAt (textHome p) p) (planeAt graphicHome p) 0x1f (a .combination) (cursorOn (a .cursor)) (cursorBlinks (a .cursor)) (cursorIn p (d .cursor) (a .cursor)) (d .phase)
 
 -- the machine that shows a picture, at rest, with this pointer
 abbrev pub machineFor : Panel → Registers → List ℕ → List ℕ → Picture → ℕ → Machine
 machineFor p r g h a pointer =
     resting (displayFor p (r .display) a) pointer (r .bus .latch) (r .bus .error) (laid g h (a .graphic) (a .codes) (a .glyphs))
 
--- planes of the panel's lengths, no attributes
+-- planes of the panel's lengths, no attributes, the cursor on the panel
 pub record Shape (p : Panel) (g h : List ℕ) (a : Picture) : Type 0 where
   pub fits : Fits (textHome p) g h (a .graphic) (a .codes) (a .glyphs)
   pub graphic : length (a .graphic) ≡ 8 * p .lines * p .columns
   pub codes : length (a .codes) ≡ p .lines * p .columns
   pub plain : isAttribute (a .combination) ≡ false
+  pub laid-on : LaidOn p (a .cursor)
 
 -- pairs that take the machine of picture a to that of picture b, whatever the pointer
 pub record Simulates (p : Panel) (rom : List ℕ) (r : Registers) (g h : List ℕ) (qs : List Pair) (a b : Picture) (pointer : ℕ) : Type 0 where
@@ -94,6 +102,7 @@ shape-planes s x y z i j k =
       graphic = i ∙ s .graphic;
       codes = j ∙ s .codes;
       plain = s .plain;
+      laid-on = s .laid-on;
     }
 
 module _ (p : Panel) (v : validPanel p ≡ true) (rom : List ℕ) (r : Registers) (g h : List ℕ) where
@@ -150,7 +159,7 @@ module _ (p : Panel) (v : validPanel p ≡ true) (rom : List ℕ) (r : Registers
     sim-cursor line column height blink k q =
         let m : List ℕ = laid g h (a .graphic) (a .codes) (a .glyphs) in
         let x : column % 128 ≡ column = omega (arith, k .across, columns-few p v) in
-        let y : line % 32 ≡ line = omega (arith, k .down, lines-few p v) in
+        let y : cursorY p line % 32 ≡ cursorY p line = mod-eq-of-lt (y-few p v line (k .down)) in
         record {
           last = q;
           run = subst
@@ -158,10 +167,10 @@ module _ (p : Panel) (v : validPanel p ≡ true) (rom : List ℕ) (r : Registers
               (λ i. resting
               (plain (planeAt (textHome p) p) (planeAt graphicHome p) 0x1f (a .combination) true blink (record { x = x i; y = y i; height = height }) (r .display .phase))
               q (r .bus .latch) (r .bus .error) m)
-              (takes-both (word-taken p rom _ q (r .bus .latch) (r .bus .error) m target.Cursor 0x21 column line refl)
+              (takes-both (word-taken p rom _ q (r .bus .latch) (r .bus .error) m target.Cursor 0x21 column (cursorY p line) refl)
               (takes-both (height-taken p rom _ q (r .bus .latch) (r .bus .error) m (0xa0 + (height - 1)) (decode-height height (k .some) (k .few)))
               (show-taken p rom _ q (r .bus .latch) (r .bus .error) m (cond blink 0x9f 0x9e) (decode-cursor blink))));
-          shape = record { fits = s .fits; graphic = s .graphic; codes = s .codes; plain = s .plain };
+          shape = record { fits = s .fits; graphic = s .graphic; codes = s .codes; plain = s .plain; laid-on = k .down };
         }
 
     sim-combine : (k : Combination) → isAttribute k ≡ false → (q : ℕ) → Sim (operationPairs p (combine k)) a (applied p (combine k) a) q
@@ -170,7 +179,7 @@ module _ (p : Panel) (v : validPanel p ≡ true) (rom : List ℕ) (r : Registers
         record {
           last = q;
           run = mode-taken p rom _ q (r .bus .latch) (r .bus .error) (laid g h (a .graphic) (a .codes) (a .glyphs)) (combinationCode k) (mode k);
-          shape = record { fits = s .fits; graphic = s .graphic; codes = s .codes; plain = e };
+          shape = record { fits = s .fits; graphic = s .graphic; codes = s .codes; plain = e; laid-on = s .laid-on };
         }
       where
         mode : (k : Combination) → decodeOf (combinationCode k) ≡ Defined (Mode false k)

@@ -117,7 +117,7 @@ module _ (p : Panel) (rom mem : List ℕ) where
     pub peek-found : p .columns ≡ 20 → 1 ≤ p .lines → r .display .graphic ≡ record { home = 0; area = 32 }
         → r .bus .auto ≡ Off → r .bus .pointer ≡ 0x0013
         → Peeks (ran r (code 0xe0 ∷ [])) false (displayedByte p (r .display) mem rom 0 0x13)
-    pub peek-error : p .columns ≡ 20 → p .lines ≤ 16 → r .display .graphic ≡ record { home = 0; area = 32 }
+    pub peek-error : p .columns ≡ 20 → p .lines ≤ 32 → r .display .graphic ≡ record { home = 0; area = 32 }
         → r .bus .auto ≡ Off → r .bus .pointer ≡ 0x0014
         → Peeks (ran r (code 0xe0 ∷ [])) true (r .bus .latch)
     -- Graphic area 0: the home is found at (0, 0).

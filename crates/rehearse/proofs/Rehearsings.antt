@@ -108,34 +108,34 @@ module _ (p : Panel) (book : List ℕ) (number : ℕ) (mem rom room frame : List
           (λ z. let i : x .number ≡ 1 = ap (λ (o : Rehearsal). o .rehearsed .number) (h ∙ ran-1 v) in absurd (let y : ⊥ = omega arith in y))
 
       printed-is : (out : List ℕ)
-          → printRehearsalOf p (x .pairs) (x .number) (x .place) f out ≡ printText (eqb (length out) 131072) (rehearsed p rom (came (validPanel p))) out
+          → printRehearsalOf p (x .pairs) (x .number) (x .place) f out ≡ printText (eqb (length out) 196608) (rehearsed p rom (came (validPanel p))) out
       unfolding printRehearsalOf
-      printed-is out = λ i. printText (framed-is (validPanel p) refl i && eqb (length out) 131072) (text-is (validPanel p) refl i) out
+      printed-is out = λ i. printText (framed-is (validPanel p) refl i && eqb (length out) 196608) (text-is (validPanel p) refl i) out
 
 -- the whole text
-pub rehearse-all : (input out mem rom room frame : List ℕ) {p : Panel} {number : ℕ} {r : Registers} {book : List ℕ} → p ≡ panelIn input → number ≡ getD input 3 0
+pub rehearse-all : (dual : Bool) (input out mem rom room frame : List ℕ) {p : Panel} {number : ℕ} {r : Registers} {book : List ℕ} → p ≡ panelIn dual input → number ≡ getD input 3 0
     → book ≡ drop 4 input → r ≡ resetRegisters → length mem ≡ 65536 → length rom ≡ 1024 → length frame ≡ validSize p (frameSize p) → length room ≡ 2097152
     → {x : Rehearsed} {m b f : List ℕ} → rehearsedAll x m b f ≡ rehearseOf p r mem rom book number room frame → length f ≡ length frame
     → {w : ℕ} {o : List ℕ} → printed w o ≡ printRehearsalOf p (x .pairs) (x .number) (x .place) f out
-    → reported (record { count = w; number = x .number }) o ≡ rehearseTextOf rom input out
+    → reported (record { count = w; number = x .number }) o ≡ rehearseTextOf dual rom input out
 unfolding rehearseTextOf rehearseText
-rehearse-all input out mem rom room frame {p} {number} {r} {book} i j k reset a c s l {x} h e y =
+rehearse-all dual input out mem rom room frame {p} {number} {r} {book} i j k reset a c s l {x} h e y =
     let fits = both (eq-eqb (length mem) 65536 a) (eq-eqb (length rom) 1024 c) in
     let ran = h ∙ ap (λ (g : Registers). rehearseOf p g mem rom book number room frame) reset in
     let text =
     y ∙ printed-is p book number mem rom room frame fits s l ran e out
-    ∙ (λ q. printText (eqb (length out) 131072) (rehearsed (i q) rom (cond (validPanel (i q)) (screenOf (i q) (k q) (j q)) (refused 1 0))) out) in
+    ∙ (λ q. printText (eqb (length out) 196608) (rehearsed (i q) rom (cond (validPanel (i q)) (screenOf (i q) (k q) (j q)) (refused 1 0))) out) in
     let told =
     number-is p book number mem rom room frame fits s l ran e (validPanel p) refl
     ∙ (λ q. rehearsedNumber (i q) (cond (validPanel (i q)) (screenOf (i q) (k q) (j q)) (refused 1 0))) in
     λ q. record { text = text q; number = told q }
 
-module _ (rom input out : List ℕ) where
+module _ (dual : Bool) (rom input out : List ℕ) where
   -- the text stands in its room
-  pub rehearse-within : {t : Told} {b : List ℕ} → reported t b ≡ rehearseTextOf rom input out → t .count ≤ length b
+  pub rehearse-within : {t : Told} {b : List ℕ} → reported t b ≡ rehearseTextOf dual rom input out → t .count ≤ length b
   unfolding rehearseTextOf
-  rehearse-within h = printed-within (eqb (length out) 131072) (rehearseText rom input) out (ap (λ (o : Reported). o .text) h)
+  rehearse-within h = printed-within (eqb (length out) 196608) (rehearseText dual rom input) out (ap (λ (o : Reported). o .text) h)
 
   -- two replies that meet the promise are equal
-  pub rehearse-text-settled : {n k : Told} {b c : List ℕ} → reported n b ≡ rehearseTextOf rom input out → reported k c ≡ rehearseTextOf rom input out → (n ≡ k) × (b ≡ c)
+  pub rehearse-text-settled : {n k : Told} {b c : List ℕ} → reported n b ≡ rehearseTextOf dual rom input out → reported k c ≡ rehearseTextOf dual rom input out → (n ≡ k) × (b ≡ c)
   rehearse-text-settled h k = reported-settled h k

@@ -1,5 +1,5 @@
 -- What the rehearse program prints, of every byte that it reads.
-use mathlib.Core.Bool.{true, cond}
+use mathlib.Core.Bool.{Bool, true, cond}
 use mathlib.Core.List.{List, _++_}
 use Prim.Native.Nat.{ℕ, _*_}
 use lib.Dec.{ltb, eqb}
@@ -26,17 +26,17 @@ rehearsedNumber p (screen os) = cond (ltb 2097152 (2 * countOf p os)) 12 0
 rehearsedNumber p (refused n place) = n
 
 -- C, L, w, number, book: 1 where the panel is not valid, then what the screen comes to
-abbrev pub screenToRun : List ℕ → Screen
-screenToRun input =
-    cond (validPanel (panelIn input)) (screenOf (panelIn input) (drop 4 input) (getD input 3 0)) (refused 1 0)
+abbrev pub screenToRun : Bool → List ℕ → Screen
+screenToRun dual input =
+    cond (validPanel (panelIn dual input)) (screenOf (panelIn dual input) (drop 4 input) (getD input 3 0)) (refused 1 0)
 
-unfoldable pub rehearseText : List ℕ → List ℕ → List ℕ
-rehearseText rom input = rehearsed (panelIn input) rom (screenToRun input)
+unfoldable pub rehearseText : Bool → List ℕ → List ℕ → List ℕ
+rehearseText dual rom input = rehearsed (panelIn dual input) rom (screenToRun dual input)
 
--- lent: 131,072 bytes of text, which suffice; the number is the screen's
-unfoldable pub rehearseTextOf : List ℕ → List ℕ → List ℕ → Reported
-rehearseTextOf rom input out =
+-- lent: 196,608 bytes of text, which suffice; the number is the screen's
+unfoldable pub rehearseTextOf : Bool → List ℕ → List ℕ → List ℕ → Reported
+rehearseTextOf dual rom input out =
     record {
-      text = printText (eqb (length out) 131072) (rehearseText rom input) out;
-      number = rehearsedNumber (panelIn input) (screenToRun input);
+      text = printText (eqb (length out) 196608) (rehearseText dual rom input) out;
+      number = rehearsedNumber (panelIn dual input) (screenToRun dual input);
     }

@@ -30,6 +30,7 @@ fn empty_room() -> [u8; 2097152]
 
 // A screen rehearsed from reset, as text.
 fn print_screen(
+    dual: bool,
     input: &[u8],
     panel: Panel,
     memory: &mut [u8],
@@ -37,9 +38,9 @@ fn print_screen(
     frame: &mut [u8],
     out: &mut [u8],
 ) -> Told
-    requires { ⌜ panel ≡ panelIn (now input) ⌝ }
+    requires { ⌜ panel ≡ panelIn dual (now input) ⌝ }
     requires { ⌜ (length (now memory) ≡ 65536) × (length (now rom) ≡ 1024) × (length (now frame) ≡ validSize panel (frameSize panel)) ⌝ }
-    ensures { λ r. ⌜ reported r (now (out .exit)) ≡ rehearseTextOf (now (rom .entry)) (now (input .entry)) (now (out .entry)) ⌝ }
+    ensures { λ r. ⌜ reported r (now (out .exit)) ≡ rehearseTextOf dual (now (rom .entry)) (now (input .entry)) (now (out .entry)) ⌝ }
 {
     let number = byte_in(input, 3) as usize;
     let book = rest_in(input, 4);
@@ -70,16 +71,24 @@ fn print_screen(
 }
 
 // The program's whole text at the start of `out`, its length and the screen's number; nothing where the room has another length than
-// 131,072. The frame is the part of the largest one that the panel takes.
-fn rehearse_text(rom: &[u8], input: &[u8], out: &mut [u8]) -> Told
+// 196,608. The frame is the part of the largest one that the panel takes.
+fn rehearse_text(dual: bool, rom: &[u8], input: &[u8], out: &mut [u8]) -> Told
     requires { ⌜ length (now rom) ≡ 1024 ⌝ }
-    ensures { λ r. ⌜ reported r (now (out .exit)) ≡ rehearseTextOf (now (rom .entry)) (now (input .entry)) (now (out .entry)) ⌝ }
+    ensures { λ r. ⌜ reported r (now (out .exit)) ≡ rehearseTextOf dual (now (rom .entry)) (now (input .entry)) (now (out .entry)) ⌝ }
 {
-    let panel = panel_in(input);
+    let panel = panel_in(input, dual);
     let bytes = panel.frame_size();
     let mut memory = empty_memory();
-    let mut frame = [0u8; 10240];
-    print_screen(input, panel, &mut memory, rom, &mut frame[..bytes], out)
+    let mut frame = [0u8; 20480];
+    print_screen(
+        dual,
+        input,
+        panel,
+        &mut memory,
+        rom,
+        &mut frame[..bytes],
+        out,
+    )
 }
 
 // With an argument the ROM is the input's first part, which has to be whole.
@@ -103,8 +112,9 @@ fn main() {
         return;
     }
     let end = got.count;
-    let mut out = [0u8; 131072];
-    let told = rehearse_text(&rom, &input[..end], &mut out);
+    let mut out = [0u8; 196608];
+    let dual = os::arg_count() > 2;
+    let told = rehearse_text(dual, &rom, &input[..end], &mut out);
     let count = told.count;
     if io::write_all(STDOUT_FILENO, &out[..count]) {
         report(told.number);

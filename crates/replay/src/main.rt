@@ -117,8 +117,8 @@ fn show(panel: Panel, ran: Ran, memory: &[u8], rom: &[u8]) -> bool {
     }
     let registers = ran.registers;
     let size = panel.frame_size();
-    let mut frame = [0u8; 10240];
-    let mut out = [0u8; 131072];
+    let mut frame = [0u8; 20480];
+    let mut out = [0u8; 196608];
     let count = put_rows(panel, registers, memory, rom, &mut frame[..size], &mut out);
     io::write_all(STDOUT_FILENO, &out[..count])
 }
@@ -134,7 +134,7 @@ fn main() {
         return;
     }
     let end = got.count;
-    let panel = panel_in(&head[..end]);
+    let panel = panel_in(&head[..end], os::arg_count() > 1);
     let mut memory = empty_memory();
     let heard = play_all(panel, &mut memory, &rom);
     if heard.failed {

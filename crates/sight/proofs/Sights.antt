@@ -1,6 +1,6 @@
 -- What peek and copy come to, case by case, from what their calls give.
 use mathlib.Core.Path.{_≡_, ap, sym, subst, _∙_}
-use mathlib.Core.Bool.{Bool, true, false, cond}
+use mathlib.Core.Bool.{Bool, true, false, cond, _||_}
 use mathlib.Core.List.{List}
 use Prim.Native.Nat.{ℕ, _+_, _-_, _*_, _<_}
 use Rattle.ground.specs.Lists.{build, stored}
@@ -32,18 +32,18 @@ module _ (p : Panel) (rom : List ℕ) (s : Registers) (mem : List ℕ) {x : Posi
   copy-nowhere f h = ap (λ (q : Registers). machine q mem) h ∙ sym (ap (copyOf p rom (machine s mem)) (sym e ∙ f))
 
   module _ {r c : ℕ} (f : x ≡ At r c) {b : Bool} (i : b ≡ isAttribute (s .display .combination)) where
-    copied-by : (v : Bool) → b ≡ v
+    copied-by : (v : Bool) → (p .dual || b) ≡ v
         → cond v (machine (withBus s (withError (s .bus) true)) mem) (machine (withBus s (withError (s .bus) false)) (copiedOf p rom (machine s mem) r c))
         ≡ copyOf p rom (machine s mem) (positionOf p (s .display .graphic) (s .bus .pointer))
     copied-by v g =
-        ap (λ (t : Bool). cond t (machine (withBus s (withError (s .bus) true)) mem) (machine (withBus s (withError (s .bus) false)) (copiedOf p rom (machine s mem) r c))) (sym g ∙ i)
+        ap (λ (t : Bool). cond t (machine (withBus s (withError (s .bus) true)) mem) (machine (withBus s (withError (s .bus) false)) (copiedOf p rom (machine s mem) r c))) (sym g ∙ (λ k. p .dual || i k))
         ∙ sym (ap (copyOf p rom (machine s mem)) (sym e ∙ f))
 
-    pub copy-attribute : {q : Registers} → b ≡ true → q ≡ withBus s (withError (s .bus) true)
+    pub copy-invalid : {q : Registers} → (p .dual || b) ≡ true → q ≡ withBus s (withError (s .bus) true)
         → machine q mem ≡ copyOf p rom (machine s mem) (positionOf p (s .display .graphic) (s .bus .pointer))
-    copy-attribute g h = ap (λ (q : Registers). machine q mem) h ∙ copied-by true g
+    copy-invalid g h = ap (λ (q : Registers). machine q mem) h ∙ copied-by true g
 
-    pub copy-found : {q : Registers} {m line : List ℕ} → b ≡ false → q ≡ withBus s (withError (s .bus) false)
+    pub copy-found : {q : Registers} {m line : List ℕ} → (p .dual || b) ≡ false → q ≡ withBus s (withError (s .bus) false)
         → line ≡ build (p .columns - c) (λ j. displayedByte p (s .display) mem rom r (c + j)) → m ≡ stored mem (s .bus .pointer) line
         → machine q m ≡ copyOf p rom (machine s mem) (positionOf p (s .display .graphic) (s .bus .pointer))
     unfolding copiedOf

@@ -14,7 +14,7 @@ pub record Seeing (p : Panel) (d : Display) (mem rom : List ℕ) : Type 0 where
   pub display : validDisplay d ≡ true
   pub lent : lentLengths mem rom ≡ true
   pub columns : p .columns ≤ 80
-  pub lines : p .lines ≤ 16
+  pub lines : p .lines ≤ 32
   pub memory : length mem ≡ 65536
 
 -- a line gathered

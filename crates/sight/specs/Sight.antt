@@ -1,6 +1,6 @@
 -- 01, A displayed byte: peek and copy.
 use Prim.Native.Nat.{ℕ, _+_, _-_}
-use mathlib.Core.Bool.{Bool, true, false, cond, _&&_}
+use mathlib.Core.Bool.{Bool, true, false, cond, _&&_, _||_}
 use mathlib.Core.List.{List}
 use Rattle.ground.specs.Lists.{build, stored}
 use Rattle.state.specs.State.{validPanel, validDisplay}
@@ -27,10 +27,11 @@ copiedOf p rom s r c =
     stored (s .memory) (addressOf (display s .graphic) r c)
     (build (p .columns - c) (λ j. displayedByte p (display s) (s .memory) rom r (c + j)))
 
--- copy with a position, not in attribute mode: the row copied, error cleared; otherwise error set
+-- copy with a position, not in attribute mode nor on a panel in two halves (02, Req 08): the row copied, error cleared; otherwise
+-- error set
 abbrev pub copyOf : Panel → List ℕ → Machine → Position → Machine
 copyOf p rom s (At r c) =
-    cond (isAttribute (display s .combination))
+    cond (p .dual || isAttribute (display s .combination))
     (onBus s (withError (bus s) true))
     (machine (withBus (s .registers) (withError (bus s) false)) (copiedOf p rom s r c))
 copyOf p rom s Nowhere = onBus s (withError (bus s) true)

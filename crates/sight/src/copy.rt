@@ -37,7 +37,7 @@ fn copy_row(panel: Panel, registers: Registers, mem: &mut [u8], rom: &[u8]) -> R
     let position = find(panel, graphic, pointer);
     match position {
         Position::At(row, column) => {
-            if is_attribute(combination) {
+            if panel.dual | is_attribute(combination) {
                 return with_error(registers, true);
             }
             let line = gather(panel, display, mem, rom, row, column);

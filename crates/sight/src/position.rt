@@ -13,7 +13,7 @@ pub enum Position {
 
 // The first in reading order. In a row the pointer stands as far across as it lies past the row's first address.
 pub(crate) fn find(panel: Panel, graphic: Plane, pointer: u16) -> Position
-    requires { ⌜ (panel .columns ≤ 80) × (panel .lines ≤ 16) ⌝ }
+    requires { ⌜ (panel .columns ≤ 80) × (panel .lines ≤ 32) ⌝ }
     ensures { λ r. ⌜ r ≡ positionOf panel graphic pointer ⌝ }
 {
     let columns = panel.columns;

@@ -1,3 +1,4 @@
+pub mod Halves
 pub mod LeftOver
 pub mod Sizes
 pub mod Tables

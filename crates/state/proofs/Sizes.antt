@@ -26,10 +26,10 @@ module _ (p : Panel) where
     pub columns-few : p .columns ≤ 80
     columns-few = panelled p v .columns
 
-    pub lines-few : p .lines ≤ 16
+    pub lines-few : p .lines ≤ 32
     lines-few = panelled p v .lines
 
-    pub rows-few : 8 * p .lines ≤ 128
+    pub rows-few : 8 * p .lines ≤ 256
     rows-few = omega (arith, lines-few)
 
     pub some-width : 1 ≤ p .width
@@ -47,11 +47,11 @@ module _ (p : Panel) where
     pub bytes-few : rowSize p ≤ 80
     bytes-few = omega (arith, dots-few)
 
-    pub frame-few : frameSize p ≤ 10240
-    frame-few = mul-le-mul {n₂ = 128} {m₂ = 80} rows-few bytes-few
+    pub frame-few : frameSize p ≤ 20480
+    frame-few = mul-le-mul {n₂ = 256} {m₂ = 80} rows-few bytes-few
 
-    pub cells-few : cellCount p ≤ 1280
-    cells-few = mul-le-mul {n₂ = 16} {m₂ = 80} lines-few columns-few
+    pub cells-few : cellCount p ≤ 2560
+    cells-few = mul-le-mul {n₂ = 32} {m₂ = 80} lines-few columns-few
 
-    pub graphic-few : 8 * p .lines * p .columns ≤ 10240
-    graphic-few = mul-le-mul {n₂ = 128} {m₂ = 80} rows-few columns-few
+    pub graphic-few : 8 * p .lines * p .columns ≤ 20480
+    graphic-few = mul-le-mul {n₂ = 256} {m₂ = 80} rows-few columns-few

@@ -1,35 +1,65 @@
 -- What validity gives, as facts.
 use mathlib.Core.Path.{_≡_, refl, ap, sym, _∙_}
-use mathlib.Core.Bool.{Bool, true, false, _&&_, _||_}
+use mathlib.Core.Bool.{Bool, true, false, _&&_, _||_, true≢false, false≢true}
 use mathlib.Core.Logic.{_⊎_, inl, inr, ⊎-elim}
-use Prim.Native.Nat.{ℕ, _<_, _≤_}
+use Prim.Native.Nat.{ℕ, _%_, _<_, _≤_}
 use native.Mathlib.Decide.{decLt}
 use native.Mathlib.Omega.{arith}
 use lib.Dec.{ltb, leb, eqb}
 use borrow.Author.Tests.{leb-true, ltb-true, eqb-true, le-leb, lt-ltb, eq-eqb}
 use Rattle.ground.proofs.Tests.{both, both-left, both-right, either}
 use Rattle.state.specs.Types.{Panel, Cursor, Display, Pending, Bus}
-use Rattle.state.specs.State.{validPanel, validDisplay, validBus}
+use Rattle.state.specs.State.{linesFit, validPanel, validDisplay, validBus}
 
 -- a valid panel, as facts
 pub record Panelled (p : Panel) : Type 0 where
   pub some-columns : 1 ≤ p .columns
   pub columns : p .columns ≤ 80
   pub some-lines : 1 ≤ p .lines
-  pub lines : p .lines ≤ 16
+  pub lines : p .lines ≤ 32
+  pub single : p .dual ≡ false → p .lines ≤ 16
+  pub halves : p .dual ≡ true → p .lines % 2 ≡ 0
   pub width : (p .width ≡ 6) ⊎ (p .width ≡ 8)
+
+-- lines that fit a kind of panel, as facts
+pub record Lined (dual : Bool) (lines : ℕ) : Type 0 where
+  pub some : 1 ≤ lines
+  pub few : lines ≤ 32
+  pub single : dual ≡ false → lines ≤ 16
+  pub halves : dual ≡ true → lines % 2 ≡ 0
+
+lined : (dual : Bool) (lines : ℕ) → linesFit dual lines ≡ true → Lined dual lines
+lined true lines e =
+    let two : (leb 2 lines && leb lines 32) ≡ true = both-left _ (eqb (lines % 2) 0) e in
+    let least : 2 ≤ lines = leb-true 2 lines (both-left _ (leb lines 32) two) in
+    record {
+      some = omega arith;
+      few = leb-true lines 32 (both-right (leb 2 lines) _ two);
+      single = λ f. absurd (true≢false f);
+      halves = λ f. eqb-true (lines % 2) 0 (both-right (leb 2 lines && leb lines 32) _ e);
+    }
+lined false lines e =
+    let most : lines ≤ 16 = leb-true lines 16 (both-right (leb 1 lines) _ e) in
+    record {
+      some = leb-true 1 lines (both-left _ (leb lines 16) e);
+      few = omega arith;
+      single = λ f. most;
+      halves = λ f. absurd (false≢true f);
+    }
 
 pub panelled : (p : Panel) → validPanel p ≡ true → Panelled p
 panelled p e =
-    let four : (leb 1 (p .columns) && leb (p .columns) 80 && leb 1 (p .lines) && leb (p .lines) 16) ≡ true = both-left _ (eqb (p .width) 6 || eqb (p .width) 8) e in
-    let three : (leb 1 (p .columns) && leb (p .columns) 80 && leb 1 (p .lines)) ≡ true = both-left _ (leb (p .lines) 16) four in
-    let two : (leb 1 (p .columns) && leb (p .columns) 80) ≡ true = both-left _ (leb 1 (p .lines)) three in
+    let three : (leb 1 (p .columns) && leb (p .columns) 80 && linesFit (p .dual) (p .lines)) ≡ true = both-left _ (eqb (p .width) 6 || eqb (p .width) 8) e in
+    let two : (leb 1 (p .columns) && leb (p .columns) 80) ≡ true = both-left _ (linesFit (p .dual) (p .lines)) three in
+    let l : Lined (p .dual) (p .lines) = lined (p .dual) (p .lines) (both-right (leb 1 (p .columns) && leb (p .columns) 80) _ three) in
     record {
       some-columns = leb-true 1 (p .columns) (both-left _ (leb (p .columns) 80) two);
       columns = leb-true (p .columns) 80 (both-right (leb 1 (p .columns)) _ two);
-      some-lines = leb-true 1 (p .lines) (both-right (leb 1 (p .columns) && leb (p .columns) 80) _ three);
-      lines = leb-true (p .lines) 16 (both-right (leb 1 (p .columns) && leb (p .columns) 80 && leb 1 (p .lines)) _ four);
-      width = widths (either (eqb (p .width) 6) (eqb (p .width) 8) (both-right (leb 1 (p .columns) && leb (p .columns) 80 && leb 1 (p .lines) && leb (p .lines) 16) _ e));
+      some-lines = l .some;
+      lines = l .few;
+      single = l .single;
+      halves = l .halves;
+      width = widths (either (eqb (p .width) 6) (eqb (p .width) 8) (both-right (leb 1 (p .columns) && leb (p .columns) 80 && linesFit (p .dual) (p .lines)) _ e));
     }
   where
     widths : (eqb (p .width) 6 ≡ true) ⊎ (eqb (p .width) 8 ≡ true) → (p .width ≡ 6) ⊎ (p .width ≡ 8)

@@ -1,5 +1,6 @@
 pub mod Types
 pub mod State
 pub mod Sizes
+pub mod Halves
 pub mod Attribute
 pub mod Combination

@@ -1,12 +1,17 @@
 -- 01, Panel and memory: valid panels, valid states, the reset state.
-use mathlib.Core.Bool.{Bool, true, false, _&&_, _||_}
+use Prim.Native.Nat.{ℕ, _%_}
+use mathlib.Core.Bool.{Bool, true, false, cond, _&&_, _||_}
 use lib.Dec.{ltb, leb, eqb}
 use Rattle.state.specs.Types.{Panel, Plane, Or, Display, Off, Pending, Bus, Registers}
 
--- C 1 to 80, L 1 to 16, w 6 or 8
+-- L 1 to 16; of a panel in two halves 2 to 32, even (02, Req 08)
+abbrev pub linesFit : Bool → ℕ → Bool
+linesFit dual lines = cond dual (leb 2 lines && leb lines 32 && eqb (lines % 2) 0) (leb 1 lines && leb lines 16)
+
+-- C 1 to 80, L as its kind has it, w 6 or 8
 abbrev pub validPanel : Panel → Bool
 validPanel p =
-    leb 1 (p .columns) && leb (p .columns) 80 && leb 1 (p .lines) && leb (p .lines) 16
+    leb 1 (p .columns) && leb (p .columns) 80 && linesFit (p .dual) (p .lines)
     && (eqb (p .width) 6 || eqb (p .width) 8)
 
 -- cursor X 0 to 127, Y 0 to 31, offset 0 to 31, cursor height 1 to 8; the other ranges are those of the fields' types

@@ -1,14 +1,16 @@
 // The panel.
 ghost use mathlib.Core.Path.{_≡_};
 ghost use Prim.Native.Nat.{_≤_};
-ghost use Rattle.state.specs.State.{validPanel};
+ghost use Rattle.state.specs.State.{linesFit, validPanel};
+ghost use Rattle.state.specs.Halves.{cursorY};
 ghost use Rattle.state.specs.Sizes.{rowSize, frameSize, cellCount, validSize};
 
-// C columns, L character lines, cells of w dots.
+// C columns, L character lines, cells of w dots; dual where it is scanned in two halves.
 pub struct Panel {
     pub columns: usize,
     pub lines: usize,
     pub width: usize,
+    pub dual: bool,
 }
 
 impl Panel {
@@ -17,8 +19,7 @@ impl Panel {
     {
         (1 <= self.columns)
             & (self.columns <= 80)
-            & (1 <= self.lines)
-            & (self.lines <= 16)
+            & lines_fit(self.dual, self.lines)
             & ((self.width == 6) | (self.width == 8))
     }
 
@@ -36,7 +37,7 @@ impl Panel {
     // 8·L·R, the bytes of a frame.
     pub fn frame_size(self) -> usize
         ensures { λ r. ⌜ r ≡ validSize self (frameSize self) ⌝ }
-        ensures { λ r. ⌜ r ≤ 10240 ⌝ }
+        ensures { λ r. ⌜ r ≤ 20480 ⌝ }
     {
         if self.valid() {
             8 * self.lines * self.row_size()
@@ -48,7 +49,7 @@ impl Panel {
     // C·L, the text plane's bytes.
     pub fn cell_count(self) -> usize
         ensures { λ r. ⌜ r ≡ validSize self (cellCount self) ⌝ }
-        ensures { λ r. ⌜ r ≤ 1280 ⌝ }
+        ensures { λ r. ⌜ r ≤ 2560 ⌝ }
     {
         if self.valid() {
             self.lines * self.columns
@@ -56,4 +57,24 @@ impl Panel {
             0
         }
     }
+
+    // The cursor's Y on a line: the lower half's lines begin with 16.
+    pub fn cursor_y(self, line: u8) -> usize
+        ensures { λ r. ⌜ r ≡ cursorY self line ⌝ }
+    {
+        let half = self.lines / 2;
+        if self.dual & (half <= line as usize) {
+            return 16 + (line as usize - half);
+        }
+        line as usize
+    }
+}
+
+fn lines_fit(dual: bool, lines: usize) -> bool
+    ensures { λ r. ⌜ r ≡ linesFit dual lines ⌝ }
+{
+    if dual {
+        return (2 <= lines) & (lines <= 32) & (lines % 2 == 0);
+    }
+    (1 <= lines) & (lines <= 16)
 }

@@ -29,12 +29,12 @@ use Rattle.write.specs.declared.Lengths.{Lengths}
 use Rattle.write.specs.Writing.{Given, refusalAlone, written, writeGiven, Both, givenIn, bothOf, writeGivenOf}
 
 -- a refusal's line is what a picture's text comes to
-pub refusal-put : (p : Panel) {number : ℕ} (place : ℕ) (frame error : List ℕ) → (number ≡ 0 → ⊥) → length error ≡ 131072 → {w : ℕ} {b : List ℕ}
+pub refusal-put : (p : Panel) {number : ℕ} (place : ℕ) (frame error : List ℕ) → (number ≡ 0 → ⊥) → length error ≡ 196608 → {w : ℕ} {b : List ℕ}
     → printed w b ≡ printPictureOf p number place frame error → printed w b ≡ printText true (refusalLine number place) error
 unfolding printPictureOf pictureText
 refusal-put p {number} place frame error nz l h =
     h
-    ∙ (λ i. printText (may-print p number frame (λ z. absurd (nz z)) i && eq-eqb (length error) 131072 l i) (line-alone p number frame (refusalLine number place) nz i) error)
+    ∙ (λ i. printText (may-print p number frame (λ z. absurd (nz z)) i && eq-eqb (length error) 196608 l i) (line-alone p number frame (refusalLine number place) nz i) error)
 
 -- the panel's bytes before what the room then holds
 headed : (out l : List ℕ) (a b c : ℕ) → 3 ≤ length out → set (set (set (take 3 out ++ l) 0 a) 1 b) 2 c ≡ a ∷ b ∷ c ∷ l
@@ -48,12 +48,12 @@ abbrev plain : Panel → List ℕ → ℕ → Given
 plain p book number = written p (cond (validPanel p) (screenOf p book number) (refused 1 0))
 
 abbrev lent : List ℕ → List ℕ → Bool
-lent out error = eqb (length out) 2097155 && eqb (length error) 131072
+lent out error = eqb (length out) 2097155 && eqb (length error) 196608
 
 -- the lengths tested
 pub record Rooms (out error : List ℕ) : Type 0 where
   pub output : length out ≡ 2097155
-  pub line : length error ≡ 131072
+  pub line : length error ≡ 196608
   pub stream : length (drop 3 out) ≡ 2097152
 
 open-is : (t : Bool) → not t ≡ false → t ≡ true
@@ -67,13 +67,13 @@ shut-is false h = refl
 pub rooms : (out error : List ℕ) → not (lent out error) ≡ false → Rooms out error
 rooms out error h =
     let e = open-is (lent out error) h in
-    let l : length out ≡ 2097155 = eqb-true (length out) 2097155 (both-left _ (eqb (length error) 131072) e) in
-    record { output = l; line = eqb-true (length error) 131072 (both-right (eqb (length out) 2097155) _ e); stream = rw length-drop (omega arith) }
+    let l : length out ≡ 2097155 = eqb-true (length out) 2097155 (both-left _ (eqb (length error) 196608) e) in
+    record { output = l; line = eqb-true (length error) 196608 (both-right (eqb (length out) 2097155) _ e); stream = rw length-drop (omega arith) }
 
 -- a room of another length
-pub given-none : (input out error : List ℕ) → not (lent out error) ≡ true → givenIn (record { output = 0; error = 0; number = 2 }) out error ≡ writeGivenOf input out error
+pub given-none : (dual : Bool) (input out error : List ℕ) → not (lent out error) ≡ true → givenIn (record { output = 0; error = 0; number = 2 }) out error ≡ writeGivenOf dual input out error
 unfolding writeGivenOf
-given-none input out error h = λ i. bothOf (sym (shut-is (lent out error) h) i) (writeGiven input) out error
+given-none dual input out error h = λ i. bothOf (sym (shut-is (lent out error) h) i) (writeGiven dual input) out error
 
 -- the room lent behind the panel's bytes, and the whole when it is back
 abbrev lentRoom : List ℕ → List ℕ
@@ -104,12 +104,12 @@ module _ (out after : List ℕ) (l : length out ≡ 2097155) (k : length after �
   pub in-2 : (a b : ℕ) → 2 < length (set (set (back out after) 0 a) 1 b)
   in-2 a b = simp length-set (omega (arith, back-long))
 
-module _ (input out error : List ℕ) (h : not (lent out error) ≡ false) {p : Panel} {number : ℕ} {book : List ℕ} (i : p ≡ panelIn input) (j : number ≡ getD input 3 0)
+module _ (dual : Bool) (input out error : List ℕ) (h : not (lent out error) ≡ false) {p : Panel} {number : ℕ} {book : List ℕ} (i : p ≡ panelIn dual input) (j : number ≡ getD input 3 0)
     (k : book ≡ drop 4 input) {r : Written} {after : List ℕ} (v : wroteAll r after ≡ writeOf p book number (lentRoom out)) where
   w : wroteAll r after ≡ writeOf p book number (drop 3 out)
   w = v ∙ ap (writeOf p book number) (room-is out)
 
-  of-input : bothOf true (plain p book number) out error ≡ writeGivenOf input out error
+  of-input : bothOf true (plain p book number) out error ≡ writeGivenOf dual input out error
   unfolding writeGivenOf writeGiven
   of-input =
       λ q. bothOf (sym (open-is (lent out error) h) q) (written (i q) (cond (validPanel (i q)) (screenOf (i q) (k q) (j q)) (refused 1 0))) out error
@@ -143,7 +143,7 @@ module _ (input out error : List ℕ) (h : not (lent out error) ≡ false) {p : 
           )
 
   pub given-refused : (r .number ≡ 0 → ⊥) → {n : ℕ} {b : List ℕ} → printed n b ≡ printText true (refusalLine (r .number) (r .place)) error
-      → givenIn (record { output = 0; error = n; number = r .number }) (back out after) b ≡ writeGivenOf input out error
+      → givenIn (record { output = 0; error = n; number = r .number }) (back out after) b ≡ writeGivenOf dual input out error
   given-refused nz x =
       let e = refusal-is nz in
       (λ q. record { output = printed 0 ((back-is out after ∙ ap (λ (l : List ℕ). take 3 out ++ l) (e .0) ∙ take-append-drop 3 out) q); error = x q; number = r .number })
@@ -181,7 +181,7 @@ module _ (input out error : List ℕ) (h : not (lent out error) ≡ false) {p : 
         count = sym (accepted .pairs)
 
     pub given-written : {a b c : ℕ} → a ≡ getD input 0 0 → b ≡ getD input 1 0 → c ≡ getD input 2 0
-        → givenIn (record { output = 3 + 2 * r .pairs; error = 0; number = 0 }) (set (set (set (back out after) 0 a) 1 b) 2 c) error ≡ writeGivenOf input out error
+        → givenIn (record { output = 3 + 2 * r .pairs; error = 0; number = 0 }) (set (set (set (back out after) 0 a) 1 b) 2 c) error ≡ writeGivenOf dual input out error
     given-written {a} {b} {c} x y s =
         let n : 3 + 2 * r .pairs ≡ suc (suc (suc (length stream))) = omega (arith, stream-long) in
         let m : 3 + length stream ≡ suc (suc (suc (length stream))) = omega arith in
@@ -197,19 +197,19 @@ module _ (input out error : List ℕ) (h : not (lent out error) ≡ false) {p : 
         ∙ (λ q. bothOf true (written-is q) out error)
         ∙ of-input
 
-module _ (input out error : List ℕ) {n : Lengths} {b c : List ℕ} (h : givenIn n b c ≡ writeGivenOf input out error) where
+module _ (dual : Bool) (input out error : List ℕ) {n : Lengths} {b c : List ℕ} (h : givenIn n b c ≡ writeGivenOf dual input out error) where
   -- what is given stands in its rooms
   pub output-within : n .output ≤ length b
   unfolding writeGivenOf
-  output-within = printed-within (lent out error) (writeGiven input .output) out (ap (λ (o : Both). o .output) h)
+  output-within = printed-within (lent out error) (writeGiven dual input .output) out (ap (λ (o : Both). o .output) h)
 
   pub error-within : n .error ≤ length c
   unfolding writeGivenOf
-  error-within = printed-within (lent out error) (writeGiven input .error) error (ap (λ (o : Both). o .error) h)
+  error-within = printed-within (lent out error) (writeGiven dual input .error) error (ap (λ (o : Both). o .error) h)
 
 -- two replies that meet the promise are equal
-pub write-both-settled : {n k : Lengths} {b c d e : List ℕ} (input out error : List ℕ) → givenIn n b c ≡ writeGivenOf input out error
-    → givenIn k d e ≡ writeGivenOf input out error → (n ≡ k) × (b ≡ d) × (c ≡ e)
-write-both-settled input out error h k =
+pub write-both-settled : {n k : Lengths} {b c d e : List ℕ} (dual : Bool) (input out error : List ℕ) → givenIn n b c ≡ writeGivenOf dual input out error
+    → givenIn k d e ≡ writeGivenOf dual input out error → (n ≡ k) × (b ≡ d) × (c ≡ e)
+write-both-settled dual input out error h k =
     let s = settled h k in
     ((λ i. record { output = s i .output .count; error = s i .error .count; number = s i .number }), ap (λ (o : Both). o .output .out) s, ap (λ (o : Both). o .error .out) s)

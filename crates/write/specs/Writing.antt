@@ -30,10 +30,10 @@ written p (screen os) =
 written p (refused n place) = refusalAlone n place
 
 -- C, L, w, number, book: 1 where the panel is not valid, then what the screen comes to
-unfoldable pub writeGiven : List ℕ → Given
-writeGiven input =
-    written (panelIn input)
-    (cond (validPanel (panelIn input)) (screenOf (panelIn input) (drop 4 input) (getD input 3 0)) (refused 1 0))
+unfoldable pub writeGiven : Bool → List ℕ → Given
+writeGiven dual input =
+    written (panelIn dual input)
+    (cond (validPanel (panelIn dual input)) (screenOf (panelIn dual input) (drop 4 input) (getD input 3 0)) (refused 1 0))
 
 -- the bytes given, and the lent rooms for them
 pub record Both : Type 0 where
@@ -49,6 +49,6 @@ abbrev pub bothOf : Bool → Given → List ℕ → List ℕ → Both
 bothOf lent g out error =
     record { output = printText lent (g .output) out; error = printText lent (g .error) error; number = cond lent (g .number) 2 }
 
--- lent: 3 bytes and the stream's room for the output, 131,072 for the line
-unfoldable pub writeGivenOf : List ℕ → List ℕ → List ℕ → Both
-writeGivenOf input out error = bothOf (eqb (length out) 2097155 && eqb (length error) 131072) (writeGiven input) out error
+-- lent: 3 bytes and the stream's room for the output, 196,608 for the line
+unfoldable pub writeGivenOf : Bool → List ℕ → List ℕ → List ℕ → Both
+writeGivenOf dual input out error = bothOf (eqb (length out) 2097155 && eqb (length error) 196608) (writeGiven dual input) out error

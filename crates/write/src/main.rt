@@ -1,5 +1,5 @@
 // The write program: a panel, a screen's number and a book from standard input; to standard output the log that shows the screen, or
-// to standard error its refusal.
+// to standard error its refusal. With an argument the panel is in two halves.
 ghost use mathlib.Core.Path.{_≡_};
 ghost use mathlib.Core.Bool.{true};
 ghost use lib.ListN.{length};
@@ -33,7 +33,7 @@ fn empty_room() -> [u8; 2097155]
 
 // A refusal's line; there is no frame to print.
 fn put_refusal(panel: Panel, number: u8, place: usize, error: &mut [u8]) -> usize
-    requires { ⌜ (number ≡ 0 → ⊥) × (length (now error) ≡ 131072) ⌝ }
+    requires { ⌜ (number ≡ 0 → ⊥) × (length (now error) ≡ 196608) ⌝ }
     ensures { λ r. ⌜ printed r (now (error .exit)) ≡ printText true (refusalLine number place) (now (error .entry)) ⌝ }
 {
     let none = [0u8; 0];
@@ -41,10 +41,10 @@ fn put_refusal(panel: Panel, number: u8, place: usize, error: &mut [u8]) -> usiz
 }
 
 // What the program gives, at the start of two rooms, and how much; nothing and 2 where a room has another length.
-fn write_both(input: &[u8], out: &mut [u8], error: &mut [u8]) -> Lengths
-    ensures { λ r. ⌜ givenIn r (now (out .exit)) (now (error .exit)) ≡ writeGivenOf (now (input .entry)) (now (out .entry)) (now (error .entry)) ⌝ }
+fn write_both(dual: bool, input: &[u8], out: &mut [u8], error: &mut [u8]) -> Lengths
+    ensures { λ r. ⌜ givenIn r (now (out .exit)) (now (error .exit)) ≡ writeGivenOf dual (now (input .entry)) (now (out .entry)) (now (error .entry)) ⌝ }
 {
-    let fits = (out.len() == 2097155) & (error.len() == 131072);
+    let fits = (out.len() == 2097155) & (error.len() == 196608);
     if !fits {
         return Lengths {
             output: 0,
@@ -52,7 +52,7 @@ fn write_both(input: &[u8], out: &mut [u8], error: &mut [u8]) -> Lengths
             number: 2,
         };
     }
-    let panel = panel_in(input);
+    let panel = panel_in(input, dual);
     let number = byte_in(input, 3) as usize;
     let book = rest_in(input, 4);
     let written = write(panel, book, number, &mut out[3..]);
@@ -83,8 +83,9 @@ fn main() {
     }
     let end = got.count;
     let mut out = empty_room();
-    let mut error = [0u8; 131072];
-    let given = write_both(&input[..end], &mut out, &mut error);
+    let mut error = [0u8; 196608];
+    let dual = os::arg_count() > 1;
+    let given = write_both(dual, &input[..end], &mut out, &mut error);
     let output = given.output;
     let line = given.error;
     if io::write_all(STDOUT_FILENO, &out[..output]) {

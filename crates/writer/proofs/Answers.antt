@@ -27,6 +27,10 @@ use Rattle.writer.proofs.Lengths.{opening-length}
 use Rattle.state.proofs.Sizes.{cells-few}
 use Rattle.writer.proofs.Puts.{put-both, put-length}
 
+-- the pairs of a screen: an operation for each byte of a book's half, and an opening
+abbrev pub mostOfScreen : ℕ
+mostOfScreen = 720000000
+
 module _ (p : Panel) (book : List ℕ) (number : ℕ) {r : Checked} (h : r ≡ checkedOf p book number) where
   -- 1, 9, 10, 11
   pub write-refused : (room : List ℕ) → (r .number ≡ 0 → ⊥) → wrote (r .number) (r .place) 0 room ≡ writeOf p book number room
@@ -46,7 +50,7 @@ module _ (p : Panel) (book : List ℕ) (number : ℕ) {r : Checked} (h : r ≡ c
     total = 1057 + 9 * (p .columns * p .lines) + r .pairs
 
     -- few enough to count, and to double
-    pub total-few : total ≤ 400000000
+    pub total-few : total ≤ mostOfScreen
     total-few = omega (arith, accepted .few, cells-few p (accepted .panel), mul-comm (p .columns) (p .lines))
 
     total-is : total ≡ countOf p (accepted .os)
@@ -92,7 +96,7 @@ pub record Streamed (p : Panel) (book : List ℕ) (number : ℕ) (room : List �
   pub whole : screenOf p book number ≡ screen os
   pub place : r .place ≡ 0
   pub pairs : r .pairs ≡ countOf p os
-  pub few : r .pairs ≤ 400000000
+  pub few : r .pairs ≤ mostOfScreen
   pub fits : 2 * r .pairs ≤ length room
   pub holds : after ≡ sets room 0 (logOf (streamOf p os))
 

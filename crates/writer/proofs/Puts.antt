@@ -47,6 +47,10 @@ put-block at bytes x y z w = put-both x (put-both y (put-both z w))
 pub put-as : {a b : List ℕ} {i e k l : ℕ} → k ≡ l → PairsPut a i (code k ∷ []) b e → PairsPut a i (code l ∷ []) b e
 put-as h x = rw h at x
 
+-- data of which the second was computed
+pub put-two-as : {a b : List ℕ} {i e m k l n : ℕ} → k ≡ l → PairsPut a i (datum m ∷ datum k ∷ code n ∷ []) b e → PairsPut a i (datum m ∷ datum l ∷ code n ∷ []) b e
+put-two-as h x = rw h at x
+
 -- a word or an address that was computed
 pub put-word-as : {a b : List ℕ} {i e k l n : ℕ} → k ≡ l
     → PairsPut a i (datum (k % 256) ∷ datum (k / 256) ∷ code n ∷ []) b e → PairsPut a i (datum (l % 256) ∷ datum (l / 256) ∷ code n ∷ []) b e

@@ -5,6 +5,7 @@ use mathlib.Core.List.{List, [], _∷_, _++_, map}
 use lib.ListN.{replicate}
 use Rattle.ground.specs.Lists.{zeros}
 use Rattle.state.specs.declared.panel.Panel.{Panel}
+use Rattle.state.specs.Halves.{cursorY}
 use Rattle.state.specs.declared.registers.Combination.{Combination}
 use Rattle.state.specs.declared.registers.Combination.the-variants.{Or, Exor, And, Attribute}
 pub use Rattle.controller.specs.Access.{Pair, datum, code}
@@ -61,7 +62,7 @@ rowBlocks p top column (suc height) width value =
     ++ rowBlocks p (suc top) column height width value
 
 -- a text, each row of operation 2 and a glyph are blocks; 3: pointer set, then F0H or F8H plus w-1-(x mod w);
--- 5: 21H with its data, A0H plus height-1, 9EH or 9FH; 6: its code
+-- 5: 21H with its data, Y the line's (02, Req 08), A0H plus height-1, 9EH or 9FH; 6: its code
 unfoldable pub operationPairs : Panel → Operation → List Pair
 operationPairs p (text line column codes) = block (textHome p + (line * p .columns + column)) codes
 operationPairs p (rectangle top column height width value) = rowBlocks p top column height width value
@@ -69,7 +70,7 @@ operationPairs p (dot x y on) =
     pointTo (graphicHome + dotByte p x y) ++ (code (cond on 0xf8 0xf0 + dotBit p x) ∷ [])
 operationPairs p (glyph k rows) = block (glyphHome + 8 * (k - 0x80)) rows
 operationPairs p (cursor line column height blink) =
-    datum column ∷ datum line ∷ code 0x21 ∷ code (0xa0 + (height - 1)) ∷ code (cond blink 0x9f 0x9e) ∷ []
+    datum column ∷ datum (cursorY p line) ∷ code 0x21 ∷ code (0xa0 + (height - 1)) ∷ code (cond blink 0x9f 0x9e) ∷ []
 operationPairs p (combine k) = code (combinationCode k) ∷ []
 
 unfoldable pub bodyPairs : Panel → List Operation → List Pair

@@ -10,6 +10,8 @@ impl Homes {
 
     pub const TEXT: u16 = 0x4000;
 
+    pub const TEXT_DUAL: u16 = 0x8000;
+
     pub const GLYPHS: u16 = 0xfc00;
 }
 
@@ -17,5 +19,9 @@ impl Homes {
 pub fn text_home(panel: Panel) -> u16
     ensures { λ r. ⌜ r ≡ textHome panel ⌝ }
 {
-    Homes::TEXT
+    if panel.dual {
+        Homes::TEXT_DUAL
+    } else {
+        Homes::TEXT
+    }
 }

@@ -5,9 +5,9 @@ ghost use mathlib.Core.List.{[], _∷_};
 ghost use Prim.Native.Nat.{_+_, _-_, _*_, _≤_};
 ghost use lib.ListN.{take, drop};
 ghost use Rattle.state.specs.State.{validPanel};
-ghost use Rattle.book.specs.Operation.{dotBit, operationOf, text, dot};
+ghost use Rattle.book.specs.Operation.{dotBit, operationOf, text, dot, cursor};
 ghost use Rattle.book.specs.Pairs.{placedPairs};
-ghost use Rattle.book.specs.Range.{InRange, TextRange, RectangleRange, DotRange, GlyphRange};
+ghost use Rattle.book.specs.Range.{InRange, TextRange, RectangleRange, DotRange, GlyphRange, CursorRange};
 ghost use Rattle.book.specs.Screen.{operationsFrom};
 ghost use Rattle.writer.specs.Stream.{datum, code, block, glyphHome, rowBlocks, combinationCode, operationPairs, bodyPairs};
 ghost use Rattle.writer.specs.Put.{PairsPut, RoomFor, operationsIn, Roomy, WritableBody};
@@ -104,13 +104,21 @@ fn cursor_code(blink: bool) -> u8
     if blink { 0x9f } else { 0x9e }
 }
 
-// Operation 5.
-fn put_cursor(room: &mut [u8], at: usize, line: u8, column: u8, height: u8, blink: bool) -> usize
-    requires { ⌜ (1 ≤ height) × (height ≤ 8) ⌝ }
-    requires { ⌜ RoomFor 5 at (now room) ⌝ }
-    ensures { λ r. ⌜ PairsPut (now (room .entry)) at (datum column ∷ datum line ∷ code 0x21 ∷ code (0xa0 + (height - 1)) ∷ code (cond blink 0x9f 0x9e) ∷ []) (now (room .exit)) r ⌝ }
+// Operation 5: the line by its Y.
+fn put_cursor(
+    room: &mut [u8],
+    at: usize,
+    panel: Panel,
+    line: u8,
+    column: u8,
+    height: u8,
+    blink: bool,
+) -> usize
+    requires { ⌜ Roomy panel (CursorRange panel line column height) 5 at (now room) ⌝ }
+    ensures { λ r. ⌜ PairsPut (now (room .entry)) at (operationPairs panel (cursor line column height blink)) (now (room .exit)) r ⌝ }
 {
-    let a = put_two(room, at, column, line, 0x21);
+    let y = panel.cursor_y(line) as u8;
+    let a = put_two(room, at, column, y, 0x21);
     let b = put_code(room, a, 0xa0 + (height - 1));
     put_code(room, b, cursor_code(blink))
 }
@@ -156,7 +164,7 @@ fn put_operation(room: &mut [u8], at: usize, panel: Panel, book: &[u8], placed: 
         Placed::Dot(x, y, on) => put_dot(room, at, panel, x as usize, y as usize, on),
         Placed::Glyph(k, from) => put_glyph(room, at, k, book, from),
         Placed::Cursor(line, column, height, blink) => {
-            put_cursor(room, at, line, column, height, blink)
+            put_cursor(room, at, panel, line, column, height, blink)
         }
         Placed::Combine(combination) => put_code(room, at, combination_code(combination)),
     }

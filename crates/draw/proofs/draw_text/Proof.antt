@@ -26,14 +26,14 @@ array-borrow-prefix-graphic c = search needs
 
 slice-aggregate-print-screen : tie.Need-slice-aggregate-print-screen
 slice-aggregate-print-screen c =
-    sym (cut (8 * c .before .before .cell-count .result) 10240 (omega (arith, c .before .before .cell-count .ensures .1)))
+    sym (cut (8 * c .before .before .cell-count .result) 20480 (omega (arith, c .before .before .cell-count .ensures .1)))
 
 array-borrow-prefix-codes : tie.Need-array-borrow-prefix-codes
 array-borrow-prefix-codes c = search needs
 
 slice-aggregate-print-screen-2 : tie.Need-slice-aggregate-print-screen-2
 slice-aggregate-print-screen-2 c =
-    sym (cut (c .before .before .before .cell-count .result) 1280 (c .before .before .before .cell-count .ensures .1))
+    sym (cut (c .before .before .before .cell-count .result) 2560 (c .before .before .before .cell-count .ensures .1))
 
 slice-aggregate-print-screen-3 : tie.Need-slice-aggregate-print-screen-3
 slice-aggregate-print-screen-3 c = search needs
@@ -43,13 +43,13 @@ array-borrow-prefix-frame c = search needs
 
 slice-aggregate-print-screen-4 : tie.Need-slice-aggregate-print-screen-4
 slice-aggregate-print-screen-4 c =
-    sym (cut (c .before .before .before .before .frame-size .result) 10240 (c .before .before .before .before .frame-size .ensures .1))
+    sym (cut (c .before .before .before .before .frame-size .result) 20480 (c .before .before .before .before .frame-size .ensures .1))
 
 print-screen-requires : tie.Need-print-screen-requires
 print-screen-requires c κs =
     let size = c .before .before .before .before .before .before .cell-count in
     let bytes = c .before .before .before .before .before .frame-size in
-    (c .before .before .before .before .before .before .before .panel-in .ensures, cut-fits (c .before .before .before .before .before .before .before .panel-in .result) (size .ensures .0) (bytes .ensures .0) (c .before .before .before .before .before .before .before .before .before .before .before .pre) (cut (8 * size .result) 10240 (omega (arith, size .ensures .1))) (cut (size .result) 1280 (size .ensures .1)) (length-replicate {0} {A = ℕ} 1024 0) (cut (bytes .result) 10240 (bytes .ensures .1)))
+    (c .before .before .before .before .before .before .before .panel-in .ensures, cut-fits (c .before .before .before .before .before .before .before .panel-in .result) (size .ensures .0) (bytes .ensures .0) (c .before .before .before .before .before .before .before .before .before .before .before .pre) (cut (8 * size .result) 20480 (omega (arith, size .ensures .1))) (cut (size .result) 2560 (size .ensures .1)) (length-replicate {0} {A = ℕ} 1024 0) (cut (bytes .result) 20480 (bytes .ensures .1)))
 
 same-length : tie.Need-same-length
 same-length c = search needs

@@ -44,7 +44,7 @@ same-length-5 c = search needs
 returns : tie.Need-returns
 returns c =
     let s = c .before .before .before .before .before .before .before .before .before .before .before .before .before .before .before .before .before .before .before .before .before .before .before .before .before .before .before .before in
-    draw-all (s .args .input .now) (s .args .out .now) (s .pre .0) (c .before .before .before .before .before .before .before .before .before .before .before .before .before .before .before .before .before .before .before .before .byte-in .ensures) (ap (λ (n : ℕ). not (eqb n 0)) (c .before .before .before .before .before .before .before .before .before .before .before .before .before .before .before .before .before .before .before .byte-in2 .ensures)) (c .before .before .before .before .before .before .before .before .before .before .before .before .before .before .before .before .before .before .rest-in .ensures) (s .pre .1) (c .before .before .before .before .before .before .before .before .before .before .before .before .before .draw .ensures) (c .before .before .before .before .before .before .before .before .before .before .before .before .before .draw .kept .1 .1 .1 .1 .1 .1 .1 .1 .0) (c .before .before .print-picture .ensures)
+    draw-all (s .args .dual) (s .args .input .now) (s .args .out .now) (s .pre .0) (c .before .before .before .before .before .before .before .before .before .before .before .before .before .before .before .before .before .before .before .before .byte-in .ensures) (ap (λ (n : ℕ). not (eqb n 0)) (c .before .before .before .before .before .before .before .before .before .before .before .before .before .before .before .before .before .before .before .byte-in2 .ensures)) (c .before .before .before .before .before .before .before .before .before .before .before .before .before .before .before .before .before .before .rest-in .ensures) (s .pre .1) (c .before .before .before .before .before .before .before .before .before .before .before .before .before .draw .ensures) (c .before .before .before .before .before .before .before .before .before .before .before .before .before .draw .kept .1 .1 .1 .1 .1 .1 .1 .1 .0) (c .before .before .print-picture .ensures)
 
 pub print-screen-spec : {M : Type 1} → statement M
 print-screen-spec =

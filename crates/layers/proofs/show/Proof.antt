@@ -4,6 +4,9 @@ use borrow.Author.Needs.{needs}
 use Rattle.layers.proofs.show.Statement.{statement}
 use Rattle.layers.proofs.show.Tie as tie
 
+arg-count-requires : tie.Need-arg-count-requires
+arg-count-requires c κs = search needs
+
 panel-in-requires : tie.Need-panel-in-requires
 panel-in-requires c κs = search needs
 
@@ -86,6 +89,7 @@ pub show-spec : {M : Type 1} → statement M
 show-spec =
     tie.close
     (tie.spec
+    arg-count-requires
     panel-in-requires
     byte-in-requires
     cast-row

@@ -27,6 +27,9 @@ read-whole-requires c κs = search needs
 returns-2 : tie.Need-returns-2
 returns-2 c = search needs
 
+arg-count-requires : tie.Need-arg-count-requires
+arg-count-requires c κs = search needs
+
 slice-aggregate-rehearse-text : tie.Need-slice-aggregate-rehearse-text
 slice-aggregate-rehearse-text c = search needs
 
@@ -43,10 +46,10 @@ rehearse-text-requires : tie.Need-rehearse-text-requires
 rehearse-text-requires c κs = search needs
 
 array-share-prefix-out : tie.Need-array-share-prefix-out
-array-share-prefix-out c = rehearse-within _ _ _ (c .before .rehearse-text .ensures)
+array-share-prefix-out c = rehearse-within _ _ _ _ (c .before .rehearse-text .ensures)
 
 slice-aggregate-write-all : tie.Need-slice-aggregate-write-all
-slice-aggregate-write-all c = sym (length-take-le _ _ (rehearse-within _ _ _ (c .before .before .rehearse-text .ensures)))
+slice-aggregate-write-all c = sym (length-take-le _ _ (rehearse-within _ _ _ _ (c .before .before .rehearse-text .ensures)))
 
 write-all-requires : tie.Need-write-all-requires
 write-all-requires c κs = search needs
@@ -71,6 +74,7 @@ main-spec =
     slice-aggregate-read-whole
     read-whole-requires
     returns-2
+    arg-count-requires
     slice-aggregate-rehearse-text
     array-share-prefix-input
     slice-aggregate-rehearse-text-2

@@ -42,7 +42,7 @@ returns : tie.Need-returns
 returns c =
     let s = c .before .before .before .before .before .before .before .before .before .before .before .before .before .before .before .before .before .before .before .before .before .before .before in
     let a = c .before .before .before .before .before .before .before .before .before .before .rehearse in
-    rehearse-all (s .args .input .now) (s .args .out .now) (s .args .memory .now) (s .args .rom .now) (c .before .before .before .before .before .before .before .before .before .before .before .before .before .before .before .empty-room .result) (s .args .frame .now) (s .pre .0) (c .before .before .before .before .before .before .before .before .before .before .before .before .before .before .before .before .before .byte-in .ensures) (c .before .before .before .before .before .before .before .before .before .before .before .before .before .before .before .before .rest-in .ensures) (c .before .before .before .before .before .before .before .before .before .before .before .before .before .before .reset .ensures .0) (s .pre .1 .0) (s .pre .1 .1) (s .pre .1 .2) (sym (c .before .before .before .before .before .before .before .before .before .before .before .before .before .before .before .empty-room .ensures)) (a .ensures .0) (a .kept .1 .1 .1 .1 .1 .1 .1 .0) (c .before .before .print-rehearsal .ensures)
+    rehearse-all (s .args .dual) (s .args .input .now) (s .args .out .now) (s .args .memory .now) (s .args .rom .now) (c .before .before .before .before .before .before .before .before .before .before .before .before .before .before .before .empty-room .result) (s .args .frame .now) (s .pre .0) (c .before .before .before .before .before .before .before .before .before .before .before .before .before .before .before .before .before .byte-in .ensures) (c .before .before .before .before .before .before .before .before .before .before .before .before .before .before .before .before .rest-in .ensures) (c .before .before .before .before .before .before .before .before .before .before .before .before .before .before .reset .ensures .0) (s .pre .1 .0) (s .pre .1 .1) (s .pre .1 .2) (sym (c .before .before .before .before .before .before .before .before .before .before .before .before .before .before .before .empty-room .ensures)) (a .ensures .0) (a .kept .1 .1 .1 .1 .1 .1 .1 .0) (c .before .before .print-rehearsal .ensures)
 
 pub print-screen-spec : {M : Type 1} → statement M
 print-screen-spec =

@@ -22,12 +22,12 @@ array-borrow-prefix-frame c = search needs
 
 slice-aggregate-print-screen-2 : tie.Need-slice-aggregate-print-screen-2
 slice-aggregate-print-screen-2 c =
-    sym (cut (c .before .before .before .frame-size .result) 10240 (c .before .before .before .frame-size .ensures .1))
+    sym (cut (c .before .before .before .frame-size .result) 20480 (c .before .before .before .frame-size .ensures .1))
 
 print-screen-requires : tie.Need-print-screen-requires
 print-screen-requires c κs =
     let bytes = c .before .before .before .before .frame-size in
-    (c .before .before .before .before .before .panel-in .ensures, (sym (c .before .before .before .empty-memory .ensures .1), c .before .before .before .before .before .before .before .before .before .pre, cut (bytes .result) 10240 (bytes .ensures .1) ∙ bytes .ensures .0))
+    (c .before .before .before .before .before .panel-in .ensures, (sym (c .before .before .before .empty-memory .ensures .1), c .before .before .before .before .before .before .before .before .before .pre, cut (bytes .result) 20480 (bytes .ensures .1) ∙ bytes .ensures .0))
 
 same-length : tie.Need-same-length
 same-length c = search needs

@@ -30,7 +30,7 @@ array-borrow-prefix-frame : tie.Need-array-borrow-prefix-frame
 array-borrow-prefix-frame c = search needs
 
 slice-aggregate-put-rows : tie.Need-slice-aggregate-put-rows
-slice-aggregate-put-rows c = sym (cut (c .before .frame-size .result) 10240 (c .before .frame-size .ensures .1))
+slice-aggregate-put-rows c = sym (cut (c .before .frame-size .result) 20480 (c .before .frame-size .ensures .1))
 
 slice-aggregate-put-rows-2 : tie.Need-slice-aggregate-put-rows-2
 slice-aggregate-put-rows-2 c = search needs

@@ -21,6 +21,9 @@ empty-room-requires c κs = search needs
 array-share-prefix-input : tie.Need-array-share-prefix-input
 array-share-prefix-input c = search needs
 
+arg-count-requires : tie.Need-arg-count-requires
+arg-count-requires c κs = search needs
+
 slice-aggregate-write-both : tie.Need-slice-aggregate-write-both
 slice-aggregate-write-both c = search needs
 
@@ -34,20 +37,20 @@ write-both-requires : tie.Need-write-both-requires
 write-both-requires c κs = search needs
 
 array-share-prefix-out : tie.Need-array-share-prefix-out
-array-share-prefix-out c = output-within _ _ _ (c .before .before .write-both .ensures)
+array-share-prefix-out c = output-within _ _ _ _ (c .before .before .write-both .ensures)
 
 slice-aggregate-write-all : tie.Need-slice-aggregate-write-all
-slice-aggregate-write-all c = sym (length-take-le _ _ (output-within _ _ _ (c .before .before .before .write-both .ensures)))
+slice-aggregate-write-all c = sym (length-take-le _ _ (output-within _ _ _ _ (c .before .before .before .write-both .ensures)))
 
 write-all-requires : tie.Need-write-all-requires
 write-all-requires c κs = search needs
 
 array-share-prefix-error : tie.Need-array-share-prefix-error
-array-share-prefix-error c = error-within _ _ _ (c .before .before .before .before .before .write-both .ensures)
+array-share-prefix-error c = error-within _ _ _ _ (c .before .before .before .before .before .write-both .ensures)
 
 slice-aggregate-write-all-2 : tie.Need-slice-aggregate-write-all-2
 slice-aggregate-write-all-2 c =
-    sym (length-take-le _ _ (error-within _ _ _ (c .before .before .before .before .before .before .write-both .ensures)))
+    sym (length-take-le _ _ (error-within _ _ _ _ (c .before .before .before .before .before .before .write-both .ensures)))
 
 write-all-requires-2 : tie.Need-write-all-requires-2
 write-all-requires-2 c κs = search needs
@@ -72,6 +75,7 @@ main-spec =
     read-whole-requires
     returns
     empty-room-requires
+    arg-count-requires
     array-share-prefix-input
     slice-aggregate-write-both
     slice-aggregate-write-both-2

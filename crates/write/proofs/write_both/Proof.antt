@@ -8,7 +8,7 @@ use Rattle.write.proofs.write_both.Tie as tie
 returns : tie.Need-returns
 returns c =
     let s = c .before .before .before .before in
-    given-none (s .args .input .now) (s .args .out .now) (s .args .error .now) (c .if1 .taken)
+    given-none (s .args .dual) (s .args .input .now) (s .args .out .now) (s .args .error .now) (c .if1 .taken)
 
 panel-in-requires : tie.Need-panel-in-requires
 panel-in-requires c κs = search needs
@@ -52,7 +52,7 @@ same-length-2 c = search needs
 returns-2 : tie.Need-returns-2
 returns-2 c =
     let s = c .before .before .before .before .before .before .before .before .before .before .before .before .before .before .before .before .before in
-    given-refused (s .args .input .now) (s .args .out .now) (s .args .error .now) (c .before .before .before .before .before .before .before .before .before .before .before .before .before .if1 .left) (c .before .before .before .before .before .before .before .before .before .before .before .before .panel-in .ensures) (c .before .before .before .before .before .before .before .before .before .before .before .byte-in .ensures) (c .before .before .before .before .before .before .before .before .before .before .rest-in .ensures) (c .before .before .before .before .before .before .before .before .write .ensures) (c .before .before .before .before .if2 .taken) (c .before .before .put-refusal .ensures)
+    given-refused (s .args .dual) (s .args .input .now) (s .args .out .now) (s .args .error .now) (c .before .before .before .before .before .before .before .before .before .before .before .before .before .if1 .left) (c .before .before .before .before .before .before .before .before .before .before .before .before .panel-in .ensures) (c .before .before .before .before .before .before .before .before .before .before .before .byte-in .ensures) (c .before .before .before .before .before .before .before .before .before .before .rest-in .ensures) (c .before .before .before .before .before .before .before .before .write .ensures) (c .before .before .before .before .if2 .taken) (c .before .before .put-refusal .ensures)
 
 byte-in-requires-2 : tie.Need-byte-in-requires-2
 byte-in-requires-2 c κs = search needs
@@ -78,15 +78,15 @@ slice-write-out-3 c =
     let s = c .before .before .before .before .before .before .before .before .before .before .before .before .before .before .before .before in
     in-2 (s .args .out .now) (c .before .before .before .before .before .before .before .write .last .1 .1 .1 .0) (rooms (s .args .out .now) (s .args .error .now) (c .before .before .before .before .before .before .before .before .before .before .before .before .if1 .left) .output) (c .before .before .before .before .before .before .before .write .kept .1 .1 .1 .0) (c .before .before .byte-in2 .result) (c .before .byte-in3 .result)
 
-mul-t10 : tie.Need-mul-t10
-mul-t10 c =
+mul-t11 : tie.Need-mul-t11
+mul-t11 c =
     let s = c .before .before .before .before .before .before .before .before .before .before .before .before .before .before .before .before .before in
-    omega (arith, pairs-few (s .args .input .now) (s .args .out .now) (s .args .error .now) (c .before .before .before .before .before .before .before .before .before .before .before .before .before .if1 .left) (c .before .before .before .before .before .before .before .before .before .before .before .before .panel-in .ensures) (c .before .before .before .before .before .before .before .before .before .before .before .byte-in .ensures) (c .before .before .before .before .before .before .before .before .before .before .rest-in .ensures) (c .before .before .before .before .before .before .before .before .write .ensures) (c .before .before .before .before .if2 .left))
+    omega (arith, pairs-few (s .args .dual) (s .args .input .now) (s .args .out .now) (s .args .error .now) (c .before .before .before .before .before .before .before .before .before .before .before .before .before .if1 .left) (c .before .before .before .before .before .before .before .before .before .before .before .before .panel-in .ensures) (c .before .before .before .before .before .before .before .before .before .before .before .byte-in .ensures) (c .before .before .before .before .before .before .before .before .before .before .rest-in .ensures) (c .before .before .before .before .before .before .before .before .write .ensures) (c .before .before .before .before .if2 .left))
 
-add-t12 : tie.Need-add-t12
-add-t12 c =
+add-t13 : tie.Need-add-t13
+add-t13 c =
     let s = c .before .before .before .before .before .before .before .before .before .before .before .before .before .before .before .before .before in
-    omega (arith, pairs-few (s .args .input .now) (s .args .out .now) (s .args .error .now) (c .before .before .before .before .before .before .before .before .before .before .before .before .before .if1 .left) (c .before .before .before .before .before .before .before .before .before .before .before .before .panel-in .ensures) (c .before .before .before .before .before .before .before .before .before .before .before .byte-in .ensures) (c .before .before .before .before .before .before .before .before .before .before .rest-in .ensures) (c .before .before .before .before .before .before .before .before .write .ensures) (c .before .before .before .before .if2 .left))
+    omega (arith, pairs-few (s .args .dual) (s .args .input .now) (s .args .out .now) (s .args .error .now) (c .before .before .before .before .before .before .before .before .before .before .before .before .before .if1 .left) (c .before .before .before .before .before .before .before .before .before .before .before .before .panel-in .ensures) (c .before .before .before .before .before .before .before .before .before .before .before .byte-in .ensures) (c .before .before .before .before .before .before .before .before .before .before .rest-in .ensures) (c .before .before .before .before .before .before .before .before .write .ensures) (c .before .before .before .before .if2 .left))
 
 same-length-3 : tie.Need-same-length-3
 same-length-3 c = search needs
@@ -94,7 +94,7 @@ same-length-3 c = search needs
 returns-3 : tie.Need-returns-3
 returns-3 c =
     let s = c .before .before .before .before .before .before .before .before .before .before .before .before .before .before .before .before .before in
-    given-written (s .args .input .now) (s .args .out .now) (s .args .error .now) (c .before .before .before .before .before .before .before .before .before .before .before .before .before .if1 .left) (c .before .before .before .before .before .before .before .before .before .before .before .before .panel-in .ensures) (c .before .before .before .before .before .before .before .before .before .before .before .byte-in .ensures) (c .before .before .before .before .before .before .before .before .before .before .rest-in .ensures) (c .before .before .before .before .before .before .before .before .write .ensures) (c .before .before .before .before .if2 .left) (c .before .before .before .byte-in2 .ensures) (c .before .before .byte-in3 .ensures) (c .before .byte-in4 .ensures)
+    given-written (s .args .dual) (s .args .input .now) (s .args .out .now) (s .args .error .now) (c .before .before .before .before .before .before .before .before .before .before .before .before .before .if1 .left) (c .before .before .before .before .before .before .before .before .before .before .before .before .panel-in .ensures) (c .before .before .before .before .before .before .before .before .before .before .before .byte-in .ensures) (c .before .before .before .before .before .before .before .before .before .before .rest-in .ensures) (c .before .before .before .before .before .before .before .before .write .ensures) (c .before .before .before .before .if2 .left) (c .before .before .before .byte-in2 .ensures) (c .before .before .byte-in3 .ensures) (c .before .byte-in4 .ensures)
 
 pub write-both-spec : {M : Type 1} → statement M
 write-both-spec =
@@ -119,7 +119,7 @@ write-both-spec =
     slice-write-out-2
     byte-in-requires-4
     slice-write-out-3
-    mul-t10
-    add-t12
+    mul-t11
+    add-t13
     same-length-3
     returns-3)

@@ -1,11 +1,16 @@
 -- `t6963c_access` meets its contract: past the door, the access, and the registers written back.
 use mathlib.Core.Bool.{true}
-use Rattle.boundary.specs.Exports.{panelOf}
+use mathlib.Core.Path.{ap, _∙_}
+use Rattle.boundary.specs.Types.{Panel}
+use Rattle.boundary.specs.Exports.{accessBytes}
 use Rattle.boundary.proofs.Doors.{entered-length}
 use Rattle.boundary.proofs.Ends.{access-refused, access-done}
 use borrow.Author.Needs.{needs}
 use Rattle.boundary.proofs.exports.t6963c_access.Statement.{statement}
 use Rattle.boundary.proofs.exports.t6963c_access.Tie as tie
+
+marked-requires : tie.Need-marked-requires
+marked-requires c κs = search needs
 
 enter-requires : tie.Need-enter-requires
 enter-requires c κs = search needs
@@ -18,8 +23,8 @@ access-requires c κs = search needs
 
 keep-requires : tie.Need-keep-requires
 keep-requires c κs =
-    let s = c .before .before .before .before .before .before .before .before .before .before .before .before .before .before .args in
-    entered-length (panelOf (s .columns) (s .lines) (s .width)) true (s .registers .now) (c .before .before .before .before .before .before .before .before .before .enter .ensures) (c .before .before .before .before .before .before .before .state .given .1)
+    let s = c .before .before .before .before .before .before .before .before .before .before .before .before .before .before .before .args in
+    entered-length (c .before .before .before .before .before .before .before .before .before .before .before .marked .result) true (s .registers .now) (c .before .before .before .before .before .before .before .before .before .enter .ensures) (c .before .before .before .before .before .before .before .state .given .1)
 
 word-requires : tie.Need-word-requires
 word-requires c κs = search needs
@@ -38,21 +43,24 @@ same-length-2 c = search needs
 
 returns : tie.Need-returns
 returns c =
-    let s = c .before .before .before .before .before .before .before .before .before .before .before .before .before .before .before .before .before .before .args in
-    access-done (panelOf (s .columns) (s .lines) (s .width)) (s .registers .now) (s .memory .now) (s .rom .now) (record { kind = s .kind; byte = s .byte }) (c .before .before .before .before .before .before .before .before .before .before .before .before .before .enter .ensures) (c .before .before .before .before .before .before .before .before .before .before .before .state .given .1) (c .before .before .before .before .before .before .before .before .access .ensures) (c .before .before .before .keep .ensures) (c .word .ensures)
+    let s = c .before .before .before .before .before .before .before .before .before .before .before .before .before .before .before .before .before .before .before .args in
+    access-done (c .before .before .before .before .before .before .before .before .before .before .before .before .before .before .before .marked .result) (s .registers .now) (s .memory .now) (s .rom .now) (record { kind = s .kind; byte = s .byte }) (c .before .before .before .before .before .before .before .before .before .before .before .before .before .enter .ensures) (c .before .before .before .before .before .before .before .before .before .before .before .state .given .1) (c .before .before .before .before .before .before .before .before .access .ensures) (c .before .before .before .keep .ensures) (c .word .ensures)
+    ∙ ap (λ (p : Panel). accessBytes p (s .registers .now) (s .memory .now) (s .rom .now) (record { kind = s .kind; byte = s .byte })) (c .before .before .before .before .before .before .before .before .before .before .before .before .before .before .before .marked .ensures)
 
 same-length-3 : tie.Need-same-length-3
 same-length-3 c = search needs
 
 returns-2 : tie.Need-returns-2
 returns-2 c =
-    let s = c .before .before .before .before .before .before .before .before .before .args in
-    access-refused (panelOf (s .columns) (s .lines) (s .width)) (s .registers .now) (s .memory .now) (s .rom .now) (record { kind = s .kind; byte = s .byte }) (c .before .before .before .before .enter .ensures) (c .before .before .number .given .1) (c .word2 .ensures)
+    let s = c .before .before .before .before .before .before .before .before .before .before .args in
+    access-refused (c .before .before .before .before .before .before .marked .result) (s .registers .now) (s .memory .now) (s .rom .now) (record { kind = s .kind; byte = s .byte }) (c .before .before .before .before .enter .ensures) (c .before .before .number .given .1) (c .word2 .ensures)
+    ∙ ap (λ (p : Panel). accessBytes p (s .registers .now) (s .memory .now) (s .rom .now) (record { kind = s .kind; byte = s .byte })) (c .before .before .before .before .before .before .marked .ensures)
 
 pub t6963c-access-spec : {M : Type 1} → statement M
 t6963c-access-spec =
     tie.close
     (tie.spec
+    marked-requires
     enter-requires
     enum-known-state
     access-requires

@@ -2,12 +2,17 @@
 use lib.Dec.{eqb}
 use lib.ListN.{length}
 use borrow.Author.Tests.{eqb-true}
-use Rattle.boundary.specs.Exports.{panelOf}
+use mathlib.Core.Path.{ap, _∙_}
+use Rattle.boundary.specs.Types.{Panel}
+use Rattle.boundary.specs.Exports.{runBytes}
 use Rattle.boundary.proofs.Doors.{entered-length, entered-lent}
 use Rattle.boundary.proofs.Ends.{run-refused, run-done}
 use borrow.Author.Needs.{needs}
 use Rattle.boundary.proofs.exports.t6963c_run.Statement.{statement}
 use Rattle.boundary.proofs.exports.t6963c_run.Tie as tie
+
+marked-requires : tie.Need-marked-requires
+marked-requires c κs = search needs
 
 enter-requires : tie.Need-enter-requires
 enter-requires c κs = search needs
@@ -20,13 +25,13 @@ run-requires c κs = search needs
 
 keep-requires : tie.Need-keep-requires
 keep-requires c κs =
-    let s = c .before .before .before .before .before .before .before .before .before .before .before .before .before .before .before .before .before .before .before .before .args in
-    entered-length (panelOf (s .columns) (s .lines) (s .width)) (eqb (length (s .counts .now)) 3) (s .registers .now) (c .before .before .before .before .before .before .before .before .before .before .before .before .enter .ensures) (c .before .before .before .before .before .before .before .before .before .before .state .given .1)
+    let s = c .before .before .before .before .before .before .before .before .before .before .before .before .before .before .before .before .before .before .before .before .before .args in
+    entered-length (c .before .before .before .before .before .before .before .before .before .before .before .before .before .before .marked .result) (eqb (length (s .counts .now)) 3) (s .registers .now) (c .before .before .before .before .before .before .before .before .before .before .before .before .enter .ensures) (c .before .before .before .before .before .before .before .before .before .before .state .given .1)
 
 count-requires : tie.Need-count-requires
 count-requires c κs =
-    let s = c .before .before .before .before .before .before .before .before .before .before .before .before .before .before .before .before .before .before .before .before .before .before .before .before .args in
-    eqb-true (length (s .counts .now)) 3 (entered-lent (panelOf (s .columns) (s .lines) (s .width)) (eqb (length (s .counts .now)) 3) (s .registers .now) (c .before .before .before .before .before .before .before .before .before .before .before .before .before .before .before .before .enter .ensures) (c .before .before .before .before .before .before .before .before .before .before .before .before .before .before .state .given .1))
+    let s = c .before .before .before .before .before .before .before .before .before .before .before .before .before .before .before .before .before .before .before .before .before .before .before .before .before .args in
+    eqb-true (length (s .counts .now)) 3 (entered-lent (c .before .before .before .before .before .before .before .before .before .before .before .before .before .before .before .before .before .before .marked .result) (eqb (length (s .counts .now)) 3) (s .registers .now) (c .before .before .before .before .before .before .before .before .before .before .before .before .before .before .before .before .enter .ensures) (c .before .before .before .before .before .before .before .before .before .before .before .before .before .before .state .given .1))
 
 enum-known-number : tie.Need-enum-known-number
 enum-known-number c = search needs
@@ -45,21 +50,24 @@ same-length-4 c = search needs
 
 returns : tie.Need-returns
 returns c =
-    let s = c .before .before .before .before .before .before .before .before .before .before .before .before .before .before .before .before .before .before .before .before .before .before .before .before .before .before .before .args in
-    run-done (panelOf (s .columns) (s .lines) (s .width)) (s .registers .now) (s .memory .now) (s .rom .now) (s .log .now) (s .limit) (s .answers .now) (s .counts .now) (c .before .before .before .before .before .before .before .before .before .before .before .before .before .before .before .before .before .before .before .enter .ensures) (c .before .before .before .before .before .before .before .before .before .before .before .before .before .before .before .before .before .state .given .1) (c .before .before .before .before .before .before .before .before .before .before .before .before .before .run .ensures) (c .before .before .before .before .before .before .keep .ensures) (c .before .before .count .ensures)
+    let s = c .before .before .before .before .before .before .before .before .before .before .before .before .before .before .before .before .before .before .before .before .before .before .before .before .before .before .before .before .args in
+    run-done (c .before .before .before .before .before .before .before .before .before .before .before .before .before .before .before .before .before .before .before .before .before .marked .result) (s .registers .now) (s .memory .now) (s .rom .now) (s .log .now) (s .limit) (s .answers .now) (s .counts .now) (c .before .before .before .before .before .before .before .before .before .before .before .before .before .before .before .before .before .before .before .enter .ensures) (c .before .before .before .before .before .before .before .before .before .before .before .before .before .before .before .before .before .state .given .1) (c .before .before .before .before .before .before .before .before .before .before .before .before .before .run .ensures) (c .before .before .before .before .before .before .keep .ensures) (c .before .before .count .ensures)
+    ∙ ap (λ (p : Panel). runBytes p (s .registers .now) (s .memory .now) (s .rom .now) (s .log .now) (s .limit) (s .answers .now) (s .counts .now)) (c .before .before .before .before .before .before .before .before .before .before .before .before .before .before .before .before .before .before .before .before .before .marked .ensures)
 
 same-length-5 : tie.Need-same-length-5
 same-length-5 c = search needs
 
 returns-2 : tie.Need-returns-2
 returns-2 c =
-    let s = c .before .before .before .before .before .before .before .before .before .before .before .args in
-    run-refused (panelOf (s .columns) (s .lines) (s .width)) (s .registers .now) (s .memory .now) (s .rom .now) (s .log .now) (s .limit) (s .answers .now) (s .counts .now) (c .before .before .before .enter .ensures) (c .before .number .given .1)
+    let s = c .before .before .before .before .before .before .before .before .before .before .before .before .args in
+    run-refused (c .before .before .before .before .before .marked .result) (s .registers .now) (s .memory .now) (s .rom .now) (s .log .now) (s .limit) (s .answers .now) (s .counts .now) (c .before .before .before .enter .ensures) (c .before .number .given .1)
+    ∙ ap (λ (p : Panel). runBytes p (s .registers .now) (s .memory .now) (s .rom .now) (s .log .now) (s .limit) (s .answers .now) (s .counts .now)) (c .before .before .before .before .before .marked .ensures)
 
 pub t6963c-run-spec : {M : Type 1} → statement M
 t6963c-run-spec =
     tie.close
     (tie.spec
+    marked-requires
     enter-requires
     enum-known-state
     run-requires

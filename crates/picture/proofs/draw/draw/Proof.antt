@@ -1,8 +1,10 @@
 -- `draw` meets its contract: the tests at the door in order, the screen checked, then its picture and its dots.
-use native.Mathlib.Nat.{mul-le-mul, lt-of-le-of-lt}
+use Prim.Native.Nat.{ℕ, _*_}
+use mathlib.Core.Path.{ap}
+use native.Mathlib.Nat.{le-of-eq, le-trans, lt-of-le-of-lt}
 use lib.Dec.{lit<}
 use Rattle.state.proofs.Valid.{panelled}
-use Rattle.state.proofs.Sizes.{is-size, cells-few, graphic-few, bytes-few}
+use Rattle.state.proofs.Sizes.{is-size, cells-few, graphic-few, frame-few}
 use Rattle.picture.proofs.Answers.{draw-1, past-valid, row-is, draw-2, lent-frame, lent-paintable, draw-refused, body-sound, drawn-paintable, draw-0}
 use borrow.Author.Needs.{needs}
 use native.Mathlib.Omega.{arith}
@@ -31,7 +33,7 @@ mul-fits-4 : tie.Need-mul-fits-4
 mul-fits-4 c = let a = c .before .before .before .before .before .before .before .before .before .before .before .before .before .args in omega (arith, panelled (a .panel) (past-valid (a .panel) (a .book .now) (a .number) (a .rom .now) (a .phase) (a .graphic .now) (a .codes .now) (a .glyphs .now) (a .frame .now) (c .before .before .before .before .before .before .valid .ensures) (c .before .before .before .before .before .if1 .left)) .lines)
 
 mul-fits-5 : tie.Need-mul-fits-5
-mul-fits-5 c = let a = c .before .before .before .before .before .before .before .before .before .before .before .before .before .args in record { fits = lt-of-le-of-lt (mul-le-mul {n₂ = 128} {m₂ = 80} (omega (arith, panelled (a .panel) (past-valid (a .panel) (a .book .now) (a .number) (a .rom .now) (a .phase) (a .graphic .now) (a .codes .now) (a .glyphs .now) (a .frame .now) (c .before .before .before .before .before .before .valid .ensures) (c .before .before .before .before .before .if1 .left)) .lines)) (omega (arith, is-size (a .panel) (past-valid (a .panel) (a .book .now) (a .number) (a .rom .now) (a .phase) (a .graphic .now) (a .codes .now) (a .glyphs .now) (a .frame .now) (c .before .before .before .before .before .before .valid .ensures) (c .before .before .before .before .before .if1 .left)) (c .before .before .before .before .row-size .ensures), bytes-few (a .panel) (past-valid (a .panel) (a .book .now) (a .number) (a .rom .now) (a .phase) (a .graphic .now) (a .codes .now) (a .glyphs .now) (a .frame .now) (c .before .before .before .before .before .before .valid .ensures) (c .before .before .before .before .before .if1 .left))))) (lit< tt) }
+mul-fits-5 c = let a = c .before .before .before .before .before .before .before .before .before .before .before .before .before .args in record { fits = lt-of-le-of-lt (le-trans (le-of-eq (ap (λ (n : ℕ). 8 * a .panel .lines * n) (is-size (a .panel) (past-valid (a .panel) (a .book .now) (a .number) (a .rom .now) (a .phase) (a .graphic .now) (a .codes .now) (a .glyphs .now) (a .frame .now) (c .before .before .before .before .before .before .valid .ensures) (c .before .before .before .before .before .if1 .left)) (c .before .before .before .before .row-size .ensures)))) (frame-few (a .panel) (past-valid (a .panel) (a .book .now) (a .number) (a .rom .now) (a .phase) (a .graphic .now) (a .codes .now) (a .glyphs .now) (a .frame .now) (c .before .before .before .before .before .before .valid .ensures) (c .before .before .before .before .before .if1 .left)))) (lit< tt) }
 
 returns-2 : tie.Need-returns-2
 returns-2 c = let a = c .before .before .before .before .before .before .before .before .before .before .before .before .before .before .args in draw-2 (a .panel) (a .book .now) (a .number) (a .rom .now) (a .phase) (a .graphic .now) (a .codes .now) (a .glyphs .now) (a .frame .now) (c .before .before .before .before .before .before .before .valid .ensures) (c .before .before .before .before .before .before .if1 .left) (c .before .before .before .before .before .row-size .ensures) (c .if2 .taken)

@@ -47,7 +47,7 @@ put-ran-requires : tie.Need-put-ran-requires
 put-ran-requires c κs =
     let s = c .before .before .before .before .before .before .before .before .before .before .before .before .before .before .before .before .before .before .args in
     let k = c .before .before .before .before .before .before .before .before .run-log in
-    ready (s .input .now) (c .before .before .before .before .before .panel-in .ensures) (k .ensures) (record { memory = k .kept .1 .0 ∙ sym (c .before .before .before .before .before .before .before .before .before .before .before .before .before .before .empty-memory .ensures .1); characters = sym (c .before .before .before .before .before .before .before .before .before .before .before .before .before .character-rom .ensures .1); answered = k .kept .1 .1 .1 .0 ∙ sym (c .before .before .before .before .before .before .before .before .before .before .before .before .no-answers .ensures .1); framed = length-replicate {0} {A = ℕ} 10240 0; roomy = c .before .before .before .before .before .before .before .before .before .before .before .before .before .before .before .if1 .taken })
+    ready (s .input .now) (c .before .before .before .before .before .panel-in .ensures) (k .ensures) (record { memory = k .kept .1 .0 ∙ sym (c .before .before .before .before .before .before .before .before .before .before .before .before .before .before .empty-memory .ensures .1); characters = sym (c .before .before .before .before .before .before .before .before .before .before .before .before .before .character-rom .ensures .1); answered = k .kept .1 .1 .1 .0 ∙ sym (c .before .before .before .before .before .before .before .before .before .before .before .before .no-answers .ensures .1); framed = length-replicate {0} {A = ℕ} 20480 0; roomy = c .before .before .before .before .before .before .before .before .before .before .before .before .before .before .before .if1 .taken })
 
 same-length : tie.Need-same-length
 same-length c = search needs

@@ -1,5 +1,5 @@
 -- `copy_row` meets its contract: with a position outside attribute mode, in it, and without one.
-use Rattle.sight.proofs.Sights.{found-within, copy-found, copy-attribute, copy-nowhere}
+use Rattle.sight.proofs.Sights.{found-within, copy-found, copy-invalid, copy-nowhere}
 use borrow.Author.Needs.{needs}
 use Rattle.sight.proofs.copy.copy_row.Statement.{statement}
 use Rattle.sight.proofs.copy.copy_row.Tie as tie
@@ -17,12 +17,12 @@ with-error-requires : tie.Need-with-error-requires
 with-error-requires c κs = search needs
 
 returns : tie.Need-returns
-returns c = copy-attribute _ _ _ _ (c .before .before .before .before .before .before .find .ensures) (c .before .before .before .before .position .given .1) (c .before .before .is-attribute .ensures) (c .before .if1 .taken) (c .with-error .ensures)
+returns c = copy-invalid _ _ _ _ (c .before .before .before .before .before .before .before .find .ensures) (c .before .before .before .before .before .position .given .1) (c .before .before .before .is-attribute .ensures) (c .before .if1 .taken) (c .with-error .ensures)
 
 gather-requires : tie.Need-gather-requires
 gather-requires c κs =
-    let s = c .before .before .before .before .before .before .before .before .before .before .before .before in
-    (s .pre, found-within (s .args .panel) _ _ (c .before .before .before .before .before .before .find .ensures) (c .before .before .before .before .position .given .1) .1)
+    let s = c .before .before .before .before .before .before .before .before .before .before .before .before .before in
+    (s .pre, found-within (s .args .panel) _ _ (c .before .before .before .before .before .before .before .find .ensures) (c .before .before .before .before .before .position .given .1) .1)
 
 store-requires : tie.Need-store-requires
 store-requires c κs = search needs
@@ -41,7 +41,7 @@ same-length c = search needs
 
 returns-2 : tie.Need-returns-2
 returns-2 c =
-    copy-found _ _ _ _ (c .before .before .before .before .before .before .before .before .before .before .before .before .find .ensures) (c .before .before .before .before .before .before .before .before .before .before .position .given .1) (c .before .before .before .before .before .before .before .before .is-attribute .ensures) (c .before .before .before .before .before .before .before .if1 .left) (c .with-error2 .ensures)
+    copy-found _ _ _ _ (c .before .before .before .before .before .before .before .before .before .before .before .before .before .find .ensures) (c .before .before .before .before .before .before .before .before .before .before .before .position .given .1) (c .before .before .before .before .before .before .before .before .before .is-attribute .ensures) (c .before .before .before .before .before .before .before .if1 .left) (c .with-error2 .ensures)
     (c .before .before .before .before .before .gather .ensures .holds) (c .before .before .before .store .ensures)
 
 returns-3 : tie.Need-returns-3

@@ -61,7 +61,7 @@ enum-known-placed-5 : tie.Need-enum-known-placed-5
 enum-known-placed-5 c = search needs
 
 put-cursor-requires : tie.Need-put-cursor-requires
-put-cursor-requires c κs = let s = c .before .before .before .before .before .before in let k = ready-as (s .args .panel) (s .args .book .now) (c .before .before .placed5 .given .1) (s .pre) in ((k .range .some, k .range .few), k .fits)
+put-cursor-requires c κs = let s = c .before .before .before .before .before .before in ready-as (s .args .panel) (s .args .book .now) (c .before .before .placed5 .given .1) (s .pre)
 
 enum-known-placed-6 : tie.Need-enum-known-placed-6
 enum-known-placed-6 c = search needs
