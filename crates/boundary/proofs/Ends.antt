@@ -14,7 +14,7 @@ use Rattle.display.specs.declared.seen.Seen.{Seen}
 use Rattle.display.specs.Frame.{painted, paintOf}
 use Rattle.display.specs.Layers.{layersOf}
 use Rattle.controller.specs.Access.{Pair, replied, accessOf}
-use Rattle.controller.specs.Run.{ranAll, runOf}
+use Rattle.controller.specs.Run.{ranAll, stoppingOf}
 use Rattle.boundary.specs.Types.{Panel, Registers, Acted, Ran, Reply, Entry, State, Refused}
 use Rattle.boundary.specs.Image.{bytesOf}
 use Rattle.boundary.specs.Door.{doorOf, keptOf, countsOf}
@@ -40,7 +40,7 @@ module _ (p : Panel) (b mem rom log : List ℕ) (limit : ℕ) (answers k : List 
   pub run-refused : {n : ℕ} → x ≡ Refused n → runEnd n b mem answers k ≡ runBytes p b mem rom log limit answers k
   run-refused e = run-by e
 
-  pub run-done : {r : Registers} {a : Ran} {m c l s : List ℕ} → x ≡ State r → ranAll a m c ≡ runOf p r mem rom log limit answers
+  pub run-done : {r : Registers} {a : Ran} {m c l s : List ℕ} → x ≡ State r → ranAll a m c ≡ stoppingOf p r mem rom log limit answers
       → l ≡ keptOf (a .number) (a .registers) b → s ≡ countsOf (a .number) (a .place) (a .taken) (a .answers) k
       → runEnd (a .number) l m c s ≡ runBytes p b mem rom log limit answers k
   run-done {a = a} {m = m} {c = c} e f g t = (λ i. runEnd (a .number) (g i) m c (t i)) ∙ ap (runDone b k) f ∙ run-by e

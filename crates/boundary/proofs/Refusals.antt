@@ -15,7 +15,7 @@ use Rattle.display.specs.Frame.{lentLengths, frameFits, Painted, paintOf}
 use Rattle.controller.specs.Types.{Auto, Off, Write, Read, Decoded, Defined, Undefined}
 use Rattle.controller.specs.Access.{Pair, Step, done, answered, refused, commandOf, dataWriteOf, dataReadOf, stepOf, Accessed, actedOf, accessOf}
 use Rattle.effects.specs.Machine.{Machine, machine}
-use Rattle.controller.specs.Run.{pairsOf, Standing, Turn, went, halted, turnOf, short, afterTurn, runFrom, endNumber, RanAll, runOf}
+use Rattle.controller.specs.Run.{pairsOf, Standing, Turn, went, halted, turnOf, short, afterTurn, runFrom, endNumber, RanAll, stoppingOf}
 use Rattle.boundary.specs.Types.{Panel, Registers, Entry, State, Refused}
 use Rattle.boundary.specs.Image.{bytesOf}
 use Rattle.boundary.specs.Door.{doorOf, closes, keptOf}
@@ -132,8 +132,8 @@ module _ (p : Panel) (b mem rom log : List ℕ) (limit : ℕ) (answers k : List 
   Stays : RanAll → Type 0
   Stays o = closes (o .ran .number) ≡ true → (o .memory ≡ mem) × (o .answers ≡ answers)
 
-  run-stays : (r : Registers) → Stays (runOf p r mem rom log limit answers)
-  unfolding runOf Stays
+  run-stays : (r : Registers) → Stays (stoppingOf p r mem rom log limit answers)
+  unfolding stoppingOf Stays
   run-stays r =
       cond-has Stays (validPanel p && validRegisters r)
       (cond-has Stays (lentLengths mem rom)
@@ -164,4 +164,4 @@ module _ (p : Panel) (b mem rom log : List ℕ) (limit : ℕ) (answers k : List 
 
       go : (x : Entry) → closes (runBy x p b mem rom log limit answers k .number) ≡ true → RunStays (runBy x p b mem rom log limit answers k)
       go (Refused n) e = record { registers = refl; memory = refl; answered = refl; counts = refl }
-      go (State r) e = of (runOf p r mem rom log limit answers) (run-stays r) e
+      go (State r) e = of (stoppingOf p r mem rom log limit answers) (run-stays r) e

@@ -10,7 +10,7 @@ use Rattle.display.specs.declared.seen.Seen.{Seen}
 use Rattle.display.specs.Frame.{Painted, paintOf}
 use Rattle.display.specs.Layers.{layersOf}
 use Rattle.controller.specs.Access.{Pair, Accessed, accessOf}
-use Rattle.controller.specs.Run.{RanAll, runOf}
+use Rattle.controller.specs.Run.{RanAll, stoppingOf}
 use Rattle.boundary.specs.Types.{Panel, Entry, State, Refused}
 use Rattle.boundary.specs.Image.{bytesOf}
 use Rattle.boundary.specs.Door.{doorOf, keptOf, countsOf}
@@ -54,7 +54,7 @@ runDone b k o =
     (countsOf (o .ran .number) (o .ran .place) (o .ran .taken) (o .ran .answers) k)
 
 abbrev pub runBy : Entry → Panel → List ℕ → List ℕ → List ℕ → List ℕ → ℕ → List ℕ → List ℕ → RunEnd
-runBy (State r) p b mem rom log limit answers k = runDone b k (runOf p r mem rom log limit answers)
+runBy (State r) p b mem rom log limit answers k = runDone b k (stoppingOf p r mem rom log limit answers)
 runBy (Refused n) p b mem rom log limit answers k = runEnd n b mem answers k
 
 -- the counts are exactly three

@@ -9,7 +9,7 @@ use super::door::keep;
 use super::door::marked;
 use super::image::encode;
 use controller::access::access;
-use controller::run::run;
+use controller::run::run_stopping;
 use display::frame::paint;
 use display::seen::layers;
 use ground::bytes::word;
@@ -63,7 +63,7 @@ pub extern "C" fn t6963c_run(
     let counted = counts.len() == 3;
     match enter(panel, counted, registers) {
         Entry::State(state) => {
-            let ran = run(panel, state, memory, rom, log, limit, answers);
+            let ran = run_stopping(panel, state, memory, rom, log, limit, answers);
             let after = ran.registers;
             keep(ran.number, after, registers);
             count(ran.number, ran.place, ran.taken, ran.answers, counts);

@@ -13,7 +13,7 @@ use Rattle.display.specs.Frame.{lentLengths}
 use Rattle.controller.specs.Types.{Panel, Registers}
 use Rattle.controller.specs.Access.{Pair, stepOf}
 use Rattle.effects.specs.Machine.{Machine, machine}
-use Rattle.controller.specs.Run.{pairsOf, logOf, runFrom, ranAll, ranOf, ranNone, runOf}
+use Rattle.controller.specs.Run.{pairsOf, logOf, runFrom, ranAll, ranOf, ranNone, stoppingOf}
 use Rattle.controller.specs.Ready.{standing}
 use Rattle.controller.proofs.Laws.{Sounds, sounds, sounds-valid}
 use Rattle.controller.proofs.Goings.{Kept}
@@ -38,9 +38,9 @@ log-pairs (p ∷ ps) = ap (λ (l : List Pair). p ∷ l) (log-pairs ps)
 -- pairs that are all taken make a run that takes them all
 pub run-takes : (p : Panel) (r : Registers) (mem rom : List ℕ) (qs : List Pair) (limit : ℕ) (answers : List ℕ) {t : Machine}
     → validPanel p ≡ true → validRegisters r ≡ true → lentLengths mem rom ≡ true → length qs ≤ limit → Takes (stepOf p rom) qs (machine r mem) t
-    → runOf p r mem rom (logOf qs) limit answers
+    → stoppingOf p r mem rom (logOf qs) limit answers
     ≡ ranAll (record { number = 0; place = 0; taken = length qs; answers = 0; registers = t .registers }) (t .memory) answers
-unfolding runOf
+unfolding stoppingOf
 run-takes p r mem rom qs limit answers {t} v w l few x =
     let even : eqb (length (logOf qs) % 2) 0 ≡ true = eq-eqb (length (logOf qs) % 2) 0 (omega (arith, log-length qs)) in
     let all : take limit (pairsOf (logOf qs)) ≡ qs = ap (take limit) (log-pairs qs) ∙ take-all limit qs few in

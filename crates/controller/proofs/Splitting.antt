@@ -14,7 +14,7 @@ use Rattle.display.specs.Frame.{lentLengths}
 use Rattle.controller.specs.Types.{Panel, Registers}
 use Rattle.controller.specs.Access.{Pair, stepOf}
 use Rattle.effects.specs.Machine.{Machine, machine}
-use Rattle.controller.specs.Run.{pairsOf, Standing, End, whole, short, Run, runFrom, endNumber, RanAll, ranAll, ranOf, ranNone, runOf}
+use Rattle.controller.specs.Run.{pairsOf, Standing, End, whole, short, Run, runFrom, endNumber, RanAll, ranAll, ranOf, ranNone, stoppingOf}
 use Rattle.controller.specs.Ready.{standing}
 use Rattle.controller.specs.Split.{continued, secondRun, Split}
 use Rattle.controller.proofs.Laws.{Sounds, sounds, sounds-valid, step-sound}
@@ -39,8 +39,8 @@ pairs-drop (suc n) (k ∷ (b ∷ log)) =
 -- past the door
 module _ (p : Panel) (r : Registers) (mem rom log : List ℕ) (limit : ℕ) (answers : List ℕ) where
   pub inside : (validPanel p && validRegisters r) ≡ true → lentLengths mem rom ≡ true → length log % 2 ≡ 0
-      → runOf p r mem rom log limit answers ≡ ranOf (runFrom (stepOf p rom) 0 (take limit (pairsOf log)) (standing r mem answers 0))
-  unfolding runOf
+      → stoppingOf p r mem rom log limit answers ≡ ranOf (runFrom (stepOf p rom) 0 (take limit (pairsOf log)) (standing r mem answers 0))
+  unfolding stoppingOf
   inside v l e =
       λ i. cond (v i)
       (cond (l i)
@@ -48,9 +48,9 @@ module _ (p : Panel) (r : Registers) (mem rom log : List ℕ) (limit : ℕ) (ans
       (ranNone 2 0 r mem answers))
       (ranNone 1 0 r mem answers)
 
-  pub door : runOf p r mem rom log limit answers .ran .number ≡ 0
+  pub door : stoppingOf p r mem rom log limit answers .ran .number ≡ 0
       → ((validPanel p && validRegisters r) ≡ true) × (lentLengths mem rom ≡ true) × (length log % 2 ≡ 0)
-  unfolding runOf
+  unfolding stoppingOf
   door z = go (validPanel p && validRegisters r) (lentLengths mem rom) (eqb (length log % 2) 0) refl refl refl z
     where
       never : {A : Type 0} (n : ℕ) → suc n ≡ 0 → A
@@ -109,7 +109,7 @@ module _ (p : Panel) (r : Registers) (mem rom log answers : List ℕ) (n m : ℕ
         given = (let f : firstRun .standing .given ≡ length (take (firstRun .standing .given) (firstRun .standing .answers)) + 0 = omega arith in f) i;
       }
 
-  second : runOf p (firstRun .standing .machine .registers) (firstRun .standing .machine .memory) rom (drop (2 * n) log) m (drop (firstRun .standing .given) (firstRun .standing .answers))
+  second : stoppingOf p (firstRun .standing .machine .registers) (firstRun .standing .machine .memory) rom (drop (2 * n) log) m (drop (firstRun .standing .given) (firstRun .standing .answers))
       ≡ ranOf (runFrom (stepOf p rom) 0 (take m (pairsOf (drop (2 * n) log))) left)
   second =
       inside p (firstRun .standing .machine .registers) (firstRun .standing .machine .memory) rom (drop (2 * n) log) m (drop (firstRun .standing .given) (firstRun .standing .answers))
@@ -138,9 +138,9 @@ abbrev gone-on : Panel → List ℕ → List ℕ → ℕ → ℕ → RanAll → 
 gone-on p rom log n m x = continued n (take (x .ran .answers) (x .answers)) (x .ran .answers) (secondRun p rom log n m x)
 
 split-run : (p : Panel) (r : Registers) (mem rom log answers : List ℕ) (n m : ℕ)
-    → runOf p r mem rom log n answers .ran .number ≡ 0
-    → runOf p r mem rom log n answers .ran .taken ≡ n
-    → runOf p r mem rom log (n + m) answers ≡ gone-on p rom log n m (runOf p r mem rom log n answers)
+    → stoppingOf p r mem rom log n answers .ran .number ≡ 0
+    → stoppingOf p r mem rom log n answers .ran .taken ≡ n
+    → stoppingOf p r mem rom log (n + m) answers ≡ gone-on p rom log n m (stoppingOf p r mem rom log n answers)
 split-run p r mem rom log answers n m z t =
     let d = door p r mem rom log n answers z in
     let f = inside p r mem rom log n answers (d .0) (d .1) (d .2) in

@@ -98,8 +98,8 @@ abbrev pub ranNone : ℕ → ℕ → Registers → List ℕ → List ℕ → Ran
 ranNone n place r mem answers = ranAll (record { number = n; place = place; taken = 0; answers = 0; registers = r }) mem answers
 
 -- 1 panel or state not valid; 2 a lent fixed length wrong; 8 log of odd length, with the whole pairs in it; then at most limit pairs
-unfoldable pub runOf : Panel → Registers → List ℕ → List ℕ → List ℕ → ℕ → List ℕ → RanAll
-runOf p r mem rom log limit answers =
+unfoldable pub stoppingOf : Panel → Registers → List ℕ → List ℕ → List ℕ → ℕ → List ℕ → RanAll
+stoppingOf p r mem rom log limit answers =
     cond (validPanel p && validRegisters r)
     (cond (lentLengths mem rom)
     (cond (eqb (length log % 2) 0)

@@ -6,7 +6,7 @@ use Prim.Native.Nat.{ℕ, _+_, _*_}
 use lib.Dec.{eqb}
 use lib.ListN.{take, drop}
 use Rattle.controller.specs.Types.{Panel, Registers}
-use Rattle.controller.specs.Run.{RanAll, ranAll, runOf}
+use Rattle.controller.specs.Run.{RanAll, ranAll, stoppingOf}
 
 -- a run that goes on where another has taken n pairs, with these answers before its own, its places counted from the whole log's start
 abbrev pub continued : ℕ → List ℕ → ℕ → RanAll → RanAll
@@ -25,13 +25,13 @@ continued n front given x =
 -- the second over the rest of log and answer buffer where the first stopped by number
 abbrev pub secondRun : Panel → List ℕ → List ℕ → ℕ → ℕ → RanAll → RanAll
 secondRun p rom log n m first =
-    runOf p (first .ran .registers) (first .memory) rom (drop (2 * n) log) m (drop (first .ran .answers) (first .answers))
+    stoppingOf p (first .ran .registers) (first .memory) rom (drop (2 * n) log) m (drop (first .ran .answers) (first .answers))
 
 abbrev pub Split : Type 0
 Split =
     (p : Panel) (r : Registers) (mem rom log answers : List ℕ) (n m : ℕ) (first : RanAll)
-    → first ≡ runOf p r mem rom log n answers
+    → first ≡ stoppingOf p r mem rom log n answers
     → first .ran .number ≡ 0
     → first .ran .taken ≡ n
-    → runOf p r mem rom log (n + m) answers
+    → stoppingOf p r mem rom log (n + m) answers
     ≡ continued n (take (first .ran .answers) (first .answers)) (first .ran .answers) (secondRun p rom log n m first)

@@ -6,7 +6,7 @@ ghost use Prim.Native.Nat.{_+_, _*_, _%_, _≤_};
 ghost use lib.ListN.{length, take};
 ghost use Rattle.effects.specs.Machine.{machine};
 ghost use Rattle.controller.specs.Access.{stepOf};
-ghost use Rattle.controller.specs.Run.{turnOf, runFrom, ranOf, ranAll, runOf, pairsOf};
+ghost use Rattle.controller.specs.Run.{turnOf, runFrom, ranOf, ranAll, stoppingOf, pairsOf};
 ghost use Rattle.controller.specs.Ready.{Runs, Tells, Draws, Blocked, standing, turnedAll, turnedOf, takenOf, answeredAll, answeredOf};
 use crate::access::Acted;
 use crate::access::step;
@@ -471,7 +471,7 @@ fn none_taken(number: u8, place: usize, registers: Registers) -> Ran
 }
 
 // At most `limit` pairs of a log: the tests at the door, then pair after pair.
-pub fn run(
+pub fn run_stopping(
     panel: Panel,
     registers: Registers,
     mem: &mut [u8],
@@ -480,7 +480,7 @@ pub fn run(
     limit: usize,
     answers: &mut [u8],
 ) -> Ran
-    ensures { λ r. ⌜ ranAll r (now (mem .exit)) (now (answers .exit)) ≡ runOf panel registers (now (mem .entry)) (now (rom .entry)) (now (log .entry)) limit (now (answers .entry)) ⌝ }
+    ensures { λ r. ⌜ ranAll r (now (mem .exit)) (now (answers .exit)) ≡ stoppingOf panel registers (now (mem .entry)) (now (rom .entry)) (now (log .entry)) limit (now (answers .entry)) ⌝ }
 {
     let valid = panel.valid() & registers.valid();
     if valid {

@@ -1,7 +1,7 @@
 // The layers program: a panel, a cell and a log from standard input; text, graphic and what comes of them to standard output. Started with
 // an argument it takes the character ROM before them.
 ghost use Prim.Native.Nat.{_≤_};
-use controller::run::run;
+use controller::run::run_stopping;
 use display::seen::row_layers;
 use ground::bytes::bit;
 use ground::bytes::lesser;
@@ -182,7 +182,7 @@ fn show(rom: &[u8], input: &[u8]) -> Shown {
     let mut memory = empty_memory();
     let mut answers = [0u8; 8192];
     let registers = Registers::reset();
-    let ran = run(
+    let ran = run_stopping(
         panel,
         registers,
         &mut memory,

@@ -17,7 +17,7 @@ use Rattle.display.specs.Frame.{lentLengths}
 use Rattle.effects.specs.Machine.{Machine, machine}
 use Rattle.controller.specs.declared.run.Ran.{Ran}
 use Rattle.controller.specs.Access.{Pair, stepOf}
-use Rattle.controller.specs.Run.{pairsOf, End, whole, short, Run, runFrom, endNumber, endPlace, RanAll, ranOf, ranNone, runOf}
+use Rattle.controller.specs.Run.{pairsOf, End, whole, short, Run, runFrom, endNumber, endPlace, RanAll, ranOf, ranNone, stoppingOf}
 use Rattle.controller.specs.Ready.{standing}
 use Rattle.controller.proofs.Laws.{Sounds, sounds, sounds-valid}
 use Rattle.controller.proofs.Runs.{pairs-length}
@@ -115,7 +115,7 @@ module _ (p : Panel) (rom : List ℕ) (v : validPanel p ≡ true) (l : length ro
     abbrev ran : Run Machine
     ran = runFrom (stepOf p rom) 0 (pairsOf log) (standing (m .registers) (m .memory) room 0)
 
-    run-is : runOf p (m .registers) (m .memory) rom log (length log / 2) room ≡ ranOf ran
+    run-is : stoppingOf p (m .registers) (m .memory) rom log (length log / 2) room ≡ ranOf ran
     run-is =
         inside p (m .registers) (m .memory) rom log (length log / 2) room (both v (sounds-valid sound)) (both (eq-eqb (length (m .memory)) 65536 (sound .memory)) (eq-eqb (length rom) 1024 l)) even
         ∙ ap (λ (qs : List Pair). ranOf (runFrom (stepOf p rom) 0 qs (standing (m .registers) (m .memory) room 0)))
@@ -207,8 +207,8 @@ module _ (p : Panel) (rom : List ℕ) (v : validPanel p ≡ true) (l : length ro
 
 -- refused at the door: 1 and 2
 module _ (p : Panel) (r : Registers) (mem rom log : List ℕ) (limit : ℕ) (answers : List ℕ) where
-  pub door-1 : (validPanel p && validRegisters r) ≡ false → runOf p r mem rom log limit answers ≡ ranNone 1 0 r mem answers
-  unfolding runOf
+  pub door-1 : (validPanel p && validRegisters r) ≡ false → stoppingOf p r mem rom log limit answers ≡ ranNone 1 0 r mem answers
+  unfolding stoppingOf
   door-1 v =
       λ i. cond (v i)
       (cond (lentLengths mem rom)
@@ -216,8 +216,8 @@ module _ (p : Panel) (r : Registers) (mem rom log : List ℕ) (limit : ℕ) (ans
       (ranNone 2 0 r mem answers))
       (ranNone 1 0 r mem answers)
 
-  pub door-2 : (validPanel p && validRegisters r) ≡ true → lentLengths mem rom ≡ false → runOf p r mem rom log limit answers ≡ ranNone 2 0 r mem answers
-  unfolding runOf
+  pub door-2 : (validPanel p && validRegisters r) ≡ true → lentLengths mem rom ≡ false → stoppingOf p r mem rom log limit answers ≡ ranNone 2 0 r mem answers
+  unfolding stoppingOf
   door-2 v l =
       λ i. cond (v i)
       (cond (l i)
@@ -226,8 +226,8 @@ module _ (p : Panel) (r : Registers) (mem rom log : List ℕ) (limit : ℕ) (ans
       (ranNone 1 0 r mem answers)
 
   pub door-8 : (validPanel p && validRegisters r) ≡ true → lentLengths mem rom ≡ true → (length log % 2 ≡ 0 → ⊥)
-      → runOf p r mem rom log limit answers ≡ ranNone 8 (length log / 2) r mem answers
-  unfolding runOf
+      → stoppingOf p r mem rom log limit answers ≡ ranNone 8 (length log / 2) r mem answers
+  unfolding stoppingOf
   door-8 v l e =
       λ i. cond (v i)
       (cond (l i)
@@ -237,7 +237,7 @@ module _ (p : Panel) (r : Registers) (mem rom log : List ℕ) (limit : ℕ) (ans
 
 -- refused with the first part, and by all the others left there
 refused-first : (p : Panel) (r : Registers) (mem rom : List ℕ) (q : Part) (qs : List Part) (n : ℕ)
-    → runOf p r mem rom (q .log) (length (q .log) / 2) (q .room) ≡ ranNone (suc n) 0 r mem (q .room)
+    → stoppingOf p r mem rom (q .log) (length (q .log) / 2) (q .room) ≡ ranNone (suc n) 0 r mem (q .room)
     → playParts p rom (q ∷ qs) (begun r mem) ≡ record { ran = ranNone (suc n) 0 r mem [] .ran; memory = mem; answers = [] }
 unfolding playParts
 refused-first p r mem rom q qs n h =

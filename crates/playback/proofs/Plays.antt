@@ -11,7 +11,7 @@ use Rattle.state.specs.declared.panel.Panel.{Panel}
 use Rattle.state.specs.declared.registers.Registers.{Registers}
 use Rattle.state.specs.State.{validPanel, validRegisters}
 use Rattle.controller.specs.declared.run.Ran.{Ran}
-use Rattle.controller.specs.Run.{ranAll, runOf}
+use Rattle.controller.specs.Run.{ranAll, stoppingOf}
 use Rattle.playback.specs.declared.play.Played.{Played}
 use Rattle.playback.specs.Play.{countedOn, PlayedAll, playedAll, partOf, playOf, closedOf}
 
@@ -43,17 +43,17 @@ module _ (p : Panel) (so : Ran) (mem rom part answers : List ℕ) where
   unfolding playOf
   play-refused nz =
       λ i. cond (sym (ne-eqb (so .number) 0 nz) i)
-      (partOf so (runOf p (so .registers) mem rom part (length part / 2) answers))
+      (partOf so (stoppingOf p (so .registers) mem rom part (length part / 2) answers))
       (playedAll (record { ran = so; given = 0 }) mem answers)
 
-  pub play-on : so .number ≡ 0 → {x next : Ran} {m b : List ℕ} → ranAll x m b ≡ runOf p (so .registers) mem rom part (length part / 2) answers
+  pub play-on : so .number ≡ 0 → {x next : Ran} {m b : List ℕ} → ranAll x m b ≡ stoppingOf p (so .registers) mem rom part (length part / 2) answers
       → next ≡ countedOn so x → playedAll (record { ran = next; given = x .answers }) m b ≡ playOf p so mem rom part answers
   unfolding playOf
   play-on z {x} {m = m} {b} h n =
       (λ i. playedAll (record { ran = n i; given = x .answers }) m b)
       ∙ ap (partOf so) h
       ∙ (λ i. cond (sym (eq-eqb (so .number) 0 z) i)
-      (partOf so (runOf p (so .registers) mem rom part (length part / 2) answers))
+      (partOf so (stoppingOf p (so .registers) mem rom part (length part / 2) answers))
       (playedAll (record { ran = so; given = 0 }) mem answers))
 
   -- two replies that meet the promise are equal

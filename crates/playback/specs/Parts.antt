@@ -6,7 +6,7 @@ use lib.ListN.{length, take}
 use Rattle.state.specs.declared.panel.Panel.{Panel}
 use Rattle.state.specs.declared.registers.Registers.{Registers}
 use Rattle.controller.specs.declared.run.Ran.{Ran}
-use Rattle.controller.specs.Run.{RanAll, runOf}
+use Rattle.controller.specs.Run.{RanAll, stoppingOf}
 use Rattle.playback.specs.Play.{begunOf, PlayedAll, playOf, closedOf}
 
 -- a part of a log, with room for its answers
@@ -45,7 +45,7 @@ begun r mem = record { ran = begunOf r; memory = mem; answers = [] }
 
 -- the run of a whole log, with room for all its answers
 abbrev pub wholeRun : Panel → Registers → List ℕ → List ℕ → List ℕ → List ℕ → RanAll
-wholeRun p r mem rom log answers = runOf p r mem rom log (length log / 2) answers
+wholeRun p r mem rom log answers = stoppingOf p r mem rom log (length log / 2) answers
 
 -- the counts fit 64 bits; played are number, place, counts, registers, memory and answers of the one run, whatever the cut
 abbrev pub PartByPart : Type 0

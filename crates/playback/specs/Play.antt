@@ -8,7 +8,7 @@ use Rattle.state.specs.declared.panel.Panel.{Panel}
 use Rattle.state.specs.declared.registers.Registers.{Registers}
 use Rattle.state.specs.State.{validPanel, validRegisters}
 use Rattle.controller.specs.declared.run.Ran.{Ran}
-use Rattle.controller.specs.Run.{RanAll, runOf}
+use Rattle.controller.specs.Run.{RanAll, stoppingOf}
 use Rattle.playback.specs.declared.play.Played.{Played}
 
 -- nothing played yet
@@ -43,7 +43,7 @@ partOf so x = playedAll (record { ran = countedOn so (x .ran); given = x .ran .a
 unfoldable pub playOf : Panel → Ran → List ℕ → List ℕ → List ℕ → List ℕ → PlayedAll
 playOf p so mem rom part answers =
     cond (eqb (so .number) 0)
-    (partOf so (runOf p (so .registers) mem rom part (length part / 2) answers))
+    (partOf so (stoppingOf p (so .registers) mem rom part (length part / 2) answers))
     (playedAll (record { ran = so; given = 0 }) mem answers)
 
 -- the whole log's length is judged before any pair, behind panel, state and the lengths lent

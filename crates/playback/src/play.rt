@@ -2,7 +2,7 @@
 ghost use mathlib.Core.Path.{_≡_};
 ghost use Rattle.playback.specs.Play.{begunOf, countedOn, playedAll, playOf, closedOf};
 use controller::run::Ran;
-use controller::run::run;
+use controller::run::run_stopping;
 use state::panel::Panel;
 use state::registers::Registers;
 
@@ -69,7 +69,7 @@ pub fn play(
         };
     }
     let registers = past.registers;
-    let ran = run(panel, registers, mem, rom, part, part.len() / 2, answers);
+    let ran = run_stopping(panel, registers, mem, rom, part, part.len() / 2, answers);
     let next = counted(past, ran);
     Played {
         ran: next,

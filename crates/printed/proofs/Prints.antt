@@ -21,7 +21,7 @@ use Rattle.state.proofs.Valid.{Panelled, panelled, narrow}
 use Rattle.controller.specs.Types.{Panel, Registers}
 use Rattle.controller.specs.declared.run.Ran.{Ran}
 use Rattle.controller.specs.Access.{stepOf}
-use Rattle.controller.specs.Run.{pairsOf, runFrom, RanAll, ranAll, ranOf, ranNone, runOf}
+use Rattle.controller.specs.Run.{pairsOf, runFrom, RanAll, ranAll, ranOf, ranNone, stoppingOf}
 use Rattle.controller.specs.Ready.{standing}
 use Rattle.controller.proofs.Laws.{Sounds, sounds, sounds-valid}
 use Rattle.controller.proofs.Goings.{Kept}
@@ -100,8 +100,8 @@ module _ (p : Panel) (r : Registers) (mem rom log : List ℕ) (limit : ℕ) (ans
   kept : Kept Sounds (runFrom (stepOf p rom) 0 (take limit (pairsOf log)) (standing r mem answers 0))
   kept = running-kept p rom (take limit (pairsOf log)) 0 (standing r mem answers 0) (sounds r mem v long) (omega arith)
 
-  pub run-came : Came p (runOf p r mem rom log limit answers)
-  unfolding runOf
+  pub run-came : Came p (stoppingOf p r mem rom log limit answers)
+  unfolding stoppingOf
   run-came = go (validPanel p && validRegisters r) (lentLengths mem rom) (eqb (length log % 2) 0) refl
     where
       go : (a b c : Bool) → (validPanel p && validRegisters r) ≡ a
@@ -139,9 +139,9 @@ frame-lines-length p frame =
 
 -- the run of the input's log
 pub ran-is : (input : List ℕ) {p : Panel} {r : Registers} {mem rom log answers : List ℕ} {e : RanAll} → p ≡ panelIn false input → r ≡ resetRegisters → mem ≡ zeros 65536
-    → rom ≡ characters → log ≡ logIn input → answers ≡ zeros 8192 → e ≡ runOf p r mem rom log (length log / 2) answers → e ≡ ranIn input
+    → rom ≡ characters → log ≡ logIn input → answers ≡ zeros 8192 → e ≡ stoppingOf p r mem rom log (length log / 2) answers → e ≡ ranIn input
 unfolding ranIn
-ran-is input i j m c l a e = e ∙ (λ k. runOf (i k) (j k) (m k) (c k) (l k) (length (l k) / 2) (a k))
+ran-is input i j m c l a e = e ∙ (λ k. stoppingOf (i k) (j k) (m k) (c k) (l k) (length (l k) / 2) (a k))
 
 pub zeros-length : (n : ℕ) → length (zeros n) ≡ n
 unfolding zeros

@@ -10,7 +10,7 @@ use Rattle.state.specs.State.{resetRegisters}
 use Rattle.display.specs.Frame.{frameOf}
 use Rattle.controller.specs.Types.{Panel}
 use Rattle.controller.specs.declared.run.Ran.{Ran}
-use Rattle.controller.specs.Run.{RanAll, runOf}
+use Rattle.controller.specs.Run.{RanAll, stoppingOf}
 use Rattle.printed.specs.declared.told.Told.{Told}
 use Rattle.printed.specs.Text.{ascii, newline, decimal, hexLines, dotLine}
 
@@ -32,7 +32,7 @@ characters = build 1024 characterRow
 -- the log's whole pairs, from reset on zero memory; an answer buffer that always has room
 unfoldable pub ranIn : List ℕ → RanAll
 ranIn input =
-    runOf (panelIn false input) resetRegisters (zeros 65536) characters (logIn input) (length (logIn input) / 2) (zeros 8192)
+    stoppingOf (panelIn false input) resetRegisters (zeros 65536) characters (logIn input) (length (logIn input) / 2) (zeros 8192)
 
 -- refusal and place
 unfoldable pub refusalLine : ℕ → ℕ → List ℕ

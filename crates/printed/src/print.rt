@@ -17,7 +17,7 @@ use crate::put::put_frame_lines;
 use crate::put::put_hex_lines;
 use crate::told::Told;
 use controller::run::Ran;
-use controller::run::run;
+use controller::run::run_stopping;
 use display::frame::paint;
 use state::panel::Panel;
 use state::registers::Registers;
@@ -71,7 +71,7 @@ fn run_log(input: &[u8], memory: &mut [u8], rom: &[u8], answers: &mut [u8]) -> R
     let panel = panel_in(input, false);
     let log = log_in(input);
     let registers = Registers::reset();
-    run(panel, registers, memory, rom, log, log.len() / 2, answers)
+    run_stopping(panel, registers, memory, rom, log, log.len() / 2, answers)
 }
 
 // The whole text at the start of `out`, its length and the run's number; 0 and 2 where the room has another length than 196,608.

@@ -13,7 +13,7 @@ use Rattle.ground.proofs.Tests.{both}
 use Rattle.state.specs.declared.panel.Panel.{Panel}
 use Rattle.state.specs.declared.registers.Registers.{Registers}
 use Rattle.state.specs.State.{validPanel, validRegisters}
-use Rattle.controller.specs.Run.{logOf, RanAll, ranAll, runOf}
+use Rattle.controller.specs.Run.{logOf, RanAll, ranAll, stoppingOf}
 use Rattle.controller.proofs.Logs.{log-length, run-takes, takes-valid}
 use Rattle.book.specs.Operation.{Operation}
 use Rattle.book.specs.Screen.{screen, screenOf}
@@ -128,26 +128,26 @@ module _ (p : Panel) (v : validPanel p ≡ true) (book : List ℕ) (bytes : (i :
         }
 
     module _ (limit : ℕ) (few : countOf p os ≤ limit) where
-      over-stream : runOf p r mem rom (logOf (streamOf p os)) limit buffer ≡ came
+      over-stream : stoppingOf p r mem rom (logOf (streamOf p os)) limit buffer ≡ came
       over-stream =
           run-takes p r mem rom (streamOf p os) limit buffer v valid (both (eq-eqb (length mem) 65536 size) (eq-eqb (length rom) 1024 characters))
           (omega (arith, long)) (drawn .run)
 
       module _ (room : List ℕ) (fits : 2 * countOf p os ≤ length room) where
-        over-room : runOf p r mem rom (take (2 * countOf p os) (sets room 0 (logOf (streamOf p os)))) limit buffer ≡ came
+        over-room : stoppingOf p r mem rom (take (2 * countOf p os) (sets room 0 (logOf (streamOf p os)))) limit buffer ≡ came
         over-room =
-            ap (λ (l : List ℕ). runOf p r mem rom l limit buffer)
+            ap (λ (l : List ℕ). stoppingOf p r mem rom l limit buffer)
             (written-log room (logOf (streamOf p os)) (omega (arith, long, log-length (streamOf p os))) fits)
             ∙ over-stream
 
         -- the run over the written room
-        pub bits : Shows p os r mem rom buffer (runOf p r mem rom (take (2 * countOf p os) (sets room 0 (logOf (streamOf p os)))) limit buffer)
+        pub bits : Shows p os r mem rom buffer (stoppingOf p r mem rom (take (2 * countOf p os) (sets room 0 (logOf (streamOf p os)))) limit buffer)
         bits = subst (λ (e : RanAll). Shows p os r mem rom buffer e) (sym over-room) came-shows
 
   -- the registers then, whatever buffer is lent
   pub registers-then : (buffer room : List ℕ) → 2 * countOf p os ≤ length room
-      → runOf p r mem rom (take (2 * countOf p os) (sets room 0 (logOf (streamOf p os)))) (countOf p os) buffer .ran .registers
-      ≡ runOf p r mem rom (logOf (streamOf p os)) (countOf p os) [] .ran .registers
+      → stoppingOf p r mem rom (take (2 * countOf p os) (sets room 0 (logOf (streamOf p os)))) (countOf p os) buffer .ran .registers
+      ≡ stoppingOf p r mem rom (logOf (streamOf p os)) (countOf p os) [] .ran .registers
   registers-then buffer room fits =
       ap (λ (e : RanAll). e .ran .registers) (over-room buffer (countOf p os) (omega arith) room fits)
       ∙ sym (ap (λ (e : RanAll). e .ran .registers) (over-stream [] (countOf p os) (omega arith)))
@@ -156,6 +156,6 @@ pub demand-3 : Demand3
 demand-3 p book number os room r mem rom answers limit bytes v whole fits valid size characters few =
     let e : writeOf p book number room ≡ wrote 0 0 (countOf p os) (sets room 0 (logOf (streamOf p os))) = write-fits p book number room v whole fits in (
       ap (λ (o : Wrote). o .written) e,
-      subst (λ (o : Wrote). Shows p os r mem rom answers (runOf p r mem rom (take (2 * countOf p os) (o .room)) limit answers)) (sym e)
+      subst (λ (o : Wrote). Shows p os r mem rom answers (stoppingOf p r mem rom (take (2 * countOf p os) (o .room)) limit answers)) (sym e)
           (bits p v book bytes number whole r mem rom valid size characters answers limit few room fits),
     )

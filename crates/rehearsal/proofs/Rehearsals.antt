@@ -18,7 +18,7 @@ use Rattle.state.specs.State.{validPanel, validRegisters}
 use Rattle.display.specs.Frame.{lentLengths, frameFits, Painted, painted, paintOf}
 use Rattle.display.proofs.Doors.{painted-is}
 use Rattle.controller.specs.declared.run.Ran.{Ran}
-use Rattle.controller.specs.Run.{logOf, RanAll, ranAll, runOf}
+use Rattle.controller.specs.Run.{logOf, RanAll, ranAll, stoppingOf}
 use Rattle.book.specs.Operation.{Operation}
 use Rattle.book.specs.Screen.{Screen, screen, refused, screenOf}
 use Rattle.writer.specs.declared.written.Written.{Written}
@@ -122,9 +122,9 @@ module _ (p : Panel) (r : Registers) (mem rom book : List ℕ) (number : ℕ) (r
         same : (qs : List Operation) → screenOf p book number ≡ screen qs → os ≡ qs
         same qs e = let q : screen os ≡ screen qs = sym (streamed .whole) ∙ e in cc
 
-        module _ (buffer : List ℕ) {ran : Ran} {m c : List ℕ} (k : ranAll ran m c ≡ runOf p r mem rom (take (2 * w .pairs) after) (w .pairs) buffer) where
-          came : ranAll ran m c ≡ runOf p r mem rom (take (2 * countOf p os) (sets room 0 (logOf (streamOf p os)))) (countOf p os) buffer
-          came = k ∙ (λ i. runOf p r mem rom (take (2 * streamed .pairs i) (streamed .holds i)) (streamed .pairs i) buffer)
+        module _ (buffer : List ℕ) {ran : Ran} {m c : List ℕ} (k : ranAll ran m c ≡ stoppingOf p r mem rom (take (2 * w .pairs) after) (w .pairs) buffer) where
+          came : ranAll ran m c ≡ stoppingOf p r mem rom (take (2 * countOf p os) (sets room 0 (logOf (streamOf p os)))) (countOf p os) buffer
+          came = k ∙ (λ i. stoppingOf p r mem rom (take (2 * streamed .pairs i) (streamed .holds i)) (streamed .pairs i) buffer)
 
           shown : Shows p os r mem rom buffer (ranAll ran m c)
           shown =
@@ -144,7 +144,7 @@ module _ (p : Panel) (r : Registers) (mem rom book : List ℕ) (number : ℕ) (r
                 ∙ shown .frame (ran .registers .display .phase)
                 ∙ ap (pictureFrame p rom (pictureOf p os)) (shown .phase)
 
-            registers-are : ran .registers ≡ runOf p r mem rom (logOf (streamOf p os)) (countOf p os) [] .ran .registers
+            registers-are : ran .registers ≡ stoppingOf p r mem rom (logOf (streamOf p os)) (countOf p os) [] .ran .registers
             registers-are =
                 ap (λ (e : RanAll). e .ran .registers) came
                 ∙ registers-then p (streamed .valid) book bytes number (streamed .whole) r mem rom valid size characters buffer room fits

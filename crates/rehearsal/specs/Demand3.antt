@@ -11,7 +11,7 @@ use Rattle.state.specs.declared.registers.Registers.{Registers}
 use Rattle.state.specs.State.{validPanel, validRegisters}
 use Rattle.display.specs.Frame.{frameOf}
 use Rattle.effects.specs.Effect.{withPhase}
-use Rattle.controller.specs.Run.{RanAll, runOf}
+use Rattle.controller.specs.Run.{RanAll, stoppingOf}
 use Rattle.book.specs.Operation.{Operation}
 use Rattle.book.specs.Screen.{screen, screenOf}
 use Rattle.writer.specs.Homes.{graphicHome, textHome, glyphHome}
@@ -60,4 +60,4 @@ Demand3 =
     → length rom ≡ 1024
     → countOf p os ≤ limit
     → (writeOf p book number room .written ≡ record { number = 0; place = 0; pairs = countOf p os })
-    × Shows p os r mem rom answers (runOf p r mem rom (take (2 * countOf p os) (writeOf p book number room .room)) limit answers)
+    × Shows p os r mem rom answers (stoppingOf p r mem rom (take (2 * countOf p os) (writeOf p book number room .room)) limit answers)

@@ -10,7 +10,7 @@ use Rattle.state.specs.declared.panel.Panel.{Panel}
 use Rattle.state.specs.declared.registers.Registers.{Registers}
 use Rattle.state.specs.State.{validPanel, validRegisters}
 use Rattle.display.specs.Frame.{lentLengths, frameFits}
-use Rattle.controller.specs.Run.{logOf, runOf}
+use Rattle.controller.specs.Run.{logOf, stoppingOf}
 use Rattle.book.specs.Operation.{Operation}
 use Rattle.book.specs.Screen.{Screen, screen, refused, screenOf}
 use Rattle.writer.specs.Stream.{streamOf, countOf}
@@ -44,7 +44,7 @@ module _ (p : Panel) (r : Registers) (mem rom room frame : List ℕ) where
         number = 0;
         place = 0;
         pairs = countOf p os;
-        registers = runOf p r mem rom (logOf (streamOf p os)) (countOf p os) [] .ran .registers;
+        registers = stoppingOf p r mem rom (logOf (streamOf p os)) (countOf p os) [] .ran .registers;
       })
       (holding p mem (pictureOf p os))
       (sets room 0 (logOf (streamOf p os)))

@@ -2,7 +2,7 @@
 ghost use mathlib.Core.Path.{_≡_};
 ghost use Prim.Native.Nat.{_*_};
 ghost use Rattle.rehearsal.specs.Rehearsed.{refusedRehearsal, rehearsedAll, rehearseOf, Outright};
-use controller::run::run;
+use controller::run::run_stopping;
 use display::frame::paint;
 use state::panel::Panel;
 use state::registers::Registers;
@@ -57,7 +57,7 @@ pub fn rehearse(
     }
     let end = 2 * written.pairs;
     let mut none = [0u8; 1];
-    let ran = run(
+    let ran = run_stopping(
         panel,
         registers,
         memory,

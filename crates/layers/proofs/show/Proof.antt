@@ -31,14 +31,14 @@ empty-memory-requires c κs = search needs
 reset-requires : tie.Need-reset-requires
 reset-requires c κs = search needs
 
-slice-aggregate-run : tie.Need-slice-aggregate-run
-slice-aggregate-run c = search needs
+slice-aggregate-run-stopping : tie.Need-slice-aggregate-run-stopping
+slice-aggregate-run-stopping c = search needs
 
-slice-aggregate-run-2 : tie.Need-slice-aggregate-run-2
-slice-aggregate-run-2 c = search needs
+slice-aggregate-run-stopping-2 : tie.Need-slice-aggregate-run-stopping-2
+slice-aggregate-run-stopping-2 c = search needs
 
-run-requires : tie.Need-run-requires
-run-requires c κs = search needs
+run-stopping-requires : tie.Need-run-stopping-requires
+run-stopping-requires c κs = search needs
 
 slice-aggregate-put-field : tie.Need-slice-aggregate-put-field
 slice-aggregate-put-field c = search needs
@@ -77,7 +77,7 @@ returns : tie.Need-returns
 returns c = search needs
 
 slice-aggregate-put-layers : tie.Need-slice-aggregate-put-layers
-slice-aggregate-put-layers c = c .before .before .before .before .before .before .before .before .before .before .before .before .before .before .before .before .before .before .before .before .before .before .before .empty-memory .ensures .1 ∙ sym (c .before .before .before .before .before .before .before .before .before .before .before .before .before .before .before .before .before .before .before .run .kept .1 .1 .0)
+slice-aggregate-put-layers c = c .before .before .before .before .before .before .before .before .before .before .before .before .before .before .before .before .before .before .before .before .before .before .before .empty-memory .ensures .1 ∙ sym (c .before .before .before .before .before .before .before .before .before .before .before .before .before .before .before .before .before .before .before .run-stopping .kept .1 .1 .0)
 
 put-layers-requires : tie.Need-put-layers-requires
 put-layers-requires c κs = search needs
@@ -98,9 +98,9 @@ show-spec =
     rest-in-requires
     empty-memory-requires
     reset-requires
-    slice-aggregate-run
-    slice-aggregate-run-2
-    run-requires
+    slice-aggregate-run-stopping
+    slice-aggregate-run-stopping-2
+    run-stopping-requires
     slice-aggregate-put-field
     put-field-requires
     slice-aggregate-put-field-2

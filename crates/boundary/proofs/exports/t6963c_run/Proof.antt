@@ -20,8 +20,8 @@ enter-requires c κs = search needs
 enum-known-state : tie.Need-enum-known-state
 enum-known-state c = search needs
 
-run-requires : tie.Need-run-requires
-run-requires c κs = search needs
+run-stopping-requires : tie.Need-run-stopping-requires
+run-stopping-requires c κs = search needs
 
 keep-requires : tie.Need-keep-requires
 keep-requires c κs =
@@ -51,7 +51,7 @@ same-length-4 c = search needs
 returns : tie.Need-returns
 returns c =
     let s = c .before .before .before .before .before .before .before .before .before .before .before .before .before .before .before .before .before .before .before .before .before .before .before .before .before .before .before .before .args in
-    run-done (c .before .before .before .before .before .before .before .before .before .before .before .before .before .before .before .before .before .before .before .before .before .marked .result) (s .registers .now) (s .memory .now) (s .rom .now) (s .log .now) (s .limit) (s .answers .now) (s .counts .now) (c .before .before .before .before .before .before .before .before .before .before .before .before .before .before .before .before .before .before .before .enter .ensures) (c .before .before .before .before .before .before .before .before .before .before .before .before .before .before .before .before .before .state .given .1) (c .before .before .before .before .before .before .before .before .before .before .before .before .before .run .ensures) (c .before .before .before .before .before .before .keep .ensures) (c .before .before .count .ensures)
+    run-done (c .before .before .before .before .before .before .before .before .before .before .before .before .before .before .before .before .before .before .before .before .before .marked .result) (s .registers .now) (s .memory .now) (s .rom .now) (s .log .now) (s .limit) (s .answers .now) (s .counts .now) (c .before .before .before .before .before .before .before .before .before .before .before .before .before .before .before .before .before .before .before .enter .ensures) (c .before .before .before .before .before .before .before .before .before .before .before .before .before .before .before .before .before .state .given .1) (c .before .before .before .before .before .before .before .before .before .before .before .before .before .run-stopping .ensures) (c .before .before .before .before .before .before .keep .ensures) (c .before .before .count .ensures)
     ∙ ap (λ (p : Panel). runBytes p (s .registers .now) (s .memory .now) (s .rom .now) (s .log .now) (s .limit) (s .answers .now) (s .counts .now)) (c .before .before .before .before .before .before .before .before .before .before .before .before .before .before .before .before .before .before .before .before .before .marked .ensures)
 
 same-length-5 : tie.Need-same-length-5
@@ -70,7 +70,7 @@ t6963c-run-spec =
     marked-requires
     enter-requires
     enum-known-state
-    run-requires
+    run-stopping-requires
     keep-requires
     count-requires
     enum-known-number

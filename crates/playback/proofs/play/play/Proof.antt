@@ -9,8 +9,8 @@ returns c =
     let s = c .before .before .before .before .before .before .args in
     play-refused (s .panel) (s .past) (s .mem .now) (s .rom .now) (s .part .now) (s .answers .now) (c .if1 .taken)
 
-run-requires : tie.Need-run-requires
-run-requires c κs = search needs
+run-stopping-requires : tie.Need-run-stopping-requires
+run-stopping-requires c κs = search needs
 
 counted-requires : tie.Need-counted-requires
 counted-requires c κs = search needs
@@ -24,8 +24,8 @@ same-length-2 c = search needs
 returns-2 : tie.Need-returns-2
 returns-2 c =
     let s = c .before .before .before .before .before .before .before .before .before .before .before .before .before .before .before .args in
-    play-on (s .panel) (s .past) (s .mem .now) (s .rom .now) (s .part .now) (s .answers .now) (c .before .before .before .before .before .before .before .before .before .if1 .left) (c .before .before .before .before .before .run .ensures) (c .counted .ensures)
+    play-on (s .panel) (s .past) (s .mem .now) (s .rom .now) (s .part .now) (s .answers .now) (c .before .before .before .before .before .before .before .before .before .if1 .left) (c .before .before .before .before .before .run-stopping .ensures) (c .counted .ensures)
 
 pub play-spec : {M : Type 1} → statement M
 play-spec =
-    tie.close (tie.spec returns run-requires counted-requires same-length same-length-2 returns-2)
+    tie.close (tie.spec returns run-stopping-requires counted-requires same-length same-length-2 returns-2)

@@ -13,8 +13,8 @@ log-in-requires c κs = search needs
 reset-requires : tie.Need-reset-requires
 reset-requires c κs = search needs
 
-run-requires : tie.Need-run-requires
-run-requires c κs = search needs
+run-stopping-requires : tie.Need-run-stopping-requires
+run-stopping-requires c κs = search needs
 
 same-length : tie.Need-same-length
 same-length c = search needs
@@ -25,7 +25,7 @@ same-length-2 c = search needs
 returns : tie.Need-returns
 returns c =
     let s = c .before .before .before .before .before .before .before .before .before .before .before .before .before .before in
-    ran-is (s .args .input .now) (c .before .before .before .before .before .before .before .before .before .panel-in .ensures) (c .before .before .before .before .before .before .before .reset .ensures .0) (s .pre .0) (s .pre .1) (c .before .before .before .before .before .before .before .before .log-in .ensures) (s .pre .2) (c .before .before .before .before .run .ensures)
+    ran-is (s .args .input .now) (c .before .before .before .before .before .before .before .before .before .panel-in .ensures) (c .before .before .before .before .before .before .before .reset .ensures .0) (s .pre .0) (s .pre .1) (c .before .before .before .before .before .before .before .before .log-in .ensures) (s .pre .2) (c .before .before .before .before .run-stopping .ensures)
 
 pub run-log-spec : {M : Type 1} → statement M
 run-log-spec =
@@ -34,7 +34,7 @@ run-log-spec =
     panel-in-requires
     log-in-requires
     reset-requires
-    run-requires
+    run-stopping-requires
     same-length
     same-length-2
     returns)

@@ -53,21 +53,21 @@ mul-end c =
     let s = c .before .before .before .before .before .before .before .before .before .before .before .before .before .before .before .before .before .args in
     omega (arith, streamed (s .panel) (s .registers) (s .memory .now) (s .rom .now) (s .book .now) (s .number) (s .room .now) (s .frame .now) (valid-is (s .panel) (s .registers) (s .memory .now) (s .rom .now) (s .book .now) (s .number) (s .room .now) (s .frame .now) true (c .before .before .before .before .before .before .before .before .before .before .before .valid .ensures) (c .before .before .before .before .before .before .before .before .before .before .valid2 .ensures) (not-false _ (c .before .before .before .before .before .before .before .before .before .if1 .left))) (fits-is (s .panel) (s .registers) (s .memory .now) (s .rom .now) (s .book .now) (s .number) (s .room .now) (s .frame .now) true (valid-is (s .panel) (s .registers) (s .memory .now) (s .rom .now) (s .book .now) (s .number) (s .room .now) (s .frame .now) true (c .before .before .before .before .before .before .before .before .before .before .before .valid .ensures) (c .before .before .before .before .before .before .before .before .before .before .valid2 .ensures) (not-false _ (c .before .before .before .before .before .before .before .before .before .if1 .left))) (c .before .before .before .before .before .before .before .before .frame-size .ensures .0) (not-false _ (c .before .before .before .before .before .before .before .if2 .left))) (c .before .before .before .before .before .write .ensures) (λ i. c .before .before .before .before .before .before .before .before .before .before .before .before .before .before .shared-slice-known2 .given i .fits) (c .before .if3 .left) .few)
 
-slice-reshare-prefix-run : tie.Need-slice-reshare-prefix-run
-slice-reshare-prefix-run c =
+slice-reshare-prefix-run-stopping : tie.Need-slice-reshare-prefix-run-stopping
+slice-reshare-prefix-run-stopping c =
     let s = c .before .before .before .before .before .before .before .before .before .before .before .before .before .before .before .before .before .before .args in
     omega (arith, streamed (s .panel) (s .registers) (s .memory .now) (s .rom .now) (s .book .now) (s .number) (s .room .now) (s .frame .now) (valid-is (s .panel) (s .registers) (s .memory .now) (s .rom .now) (s .book .now) (s .number) (s .room .now) (s .frame .now) true (c .before .before .before .before .before .before .before .before .before .before .before .before .valid .ensures) (c .before .before .before .before .before .before .before .before .before .before .before .valid2 .ensures) (not-false _ (c .before .before .before .before .before .before .before .before .before .before .if1 .left))) (fits-is (s .panel) (s .registers) (s .memory .now) (s .rom .now) (s .book .now) (s .number) (s .room .now) (s .frame .now) true (valid-is (s .panel) (s .registers) (s .memory .now) (s .rom .now) (s .book .now) (s .number) (s .room .now) (s .frame .now) true (c .before .before .before .before .before .before .before .before .before .before .before .before .valid .ensures) (c .before .before .before .before .before .before .before .before .before .before .before .valid2 .ensures) (not-false _ (c .before .before .before .before .before .before .before .before .before .before .if1 .left))) (c .before .before .before .before .before .before .before .before .before .frame-size .ensures .0) (not-false _ (c .before .before .before .before .before .before .before .before .if2 .left))) (c .before .before .before .before .before .before .write .ensures) (λ i. c .before .before .before .before .before .before .before .before .before .before .before .before .before .before .before .shared-slice-known2 .given i .fits) (c .before .before .if3 .left) .fits, c .before .before .before .before .before .before .write .kept)
 
-slice-aggregate-run : tie.Need-slice-aggregate-run
-slice-aggregate-run c =
+slice-aggregate-run-stopping : tie.Need-slice-aggregate-run-stopping
+slice-aggregate-run-stopping c =
     let s = c .before .before .before .before .before .before .before .before .before .before .before .before .before .before .before .before .before .before .before .args in
     sym (length-take-le _ _ (omega (arith, streamed (s .panel) (s .registers) (s .memory .now) (s .rom .now) (s .book .now) (s .number) (s .room .now) (s .frame .now) (valid-is (s .panel) (s .registers) (s .memory .now) (s .rom .now) (s .book .now) (s .number) (s .room .now) (s .frame .now) true (c .before .before .before .before .before .before .before .before .before .before .before .before .before .valid .ensures) (c .before .before .before .before .before .before .before .before .before .before .before .before .valid2 .ensures) (not-false _ (c .before .before .before .before .before .before .before .before .before .before .before .if1 .left))) (fits-is (s .panel) (s .registers) (s .memory .now) (s .rom .now) (s .book .now) (s .number) (s .room .now) (s .frame .now) true (valid-is (s .panel) (s .registers) (s .memory .now) (s .rom .now) (s .book .now) (s .number) (s .room .now) (s .frame .now) true (c .before .before .before .before .before .before .before .before .before .before .before .before .before .valid .ensures) (c .before .before .before .before .before .before .before .before .before .before .before .before .valid2 .ensures) (not-false _ (c .before .before .before .before .before .before .before .before .before .before .before .if1 .left))) (c .before .before .before .before .before .before .before .before .before .before .frame-size .ensures .0) (not-false _ (c .before .before .before .before .before .before .before .before .before .if2 .left))) (c .before .before .before .before .before .before .before .write .ensures) (λ i. c .before .before .before .before .before .before .before .before .before .before .before .before .before .before .before .before .shared-slice-known2 .given i .fits) (c .before .before .before .if3 .left) .fits, c .before .before .before .before .before .before .before .write .kept)))
 
-slice-aggregate-run-2 : tie.Need-slice-aggregate-run-2
-slice-aggregate-run-2 c = search needs
+slice-aggregate-run-stopping-2 : tie.Need-slice-aggregate-run-stopping-2
+slice-aggregate-run-stopping-2 c = search needs
 
-run-requires : tie.Need-run-requires
-run-requires c κs = search needs
+run-stopping-requires : tie.Need-run-stopping-requires
+run-stopping-requires c κs = search needs
 
 paint-requires : tie.Need-paint-requires
 paint-requires c κs = search needs
@@ -84,7 +84,7 @@ same-length-4 c = search needs
 returns-4 : tie.Need-returns-4
 returns-4 c =
     let s = c .before .before .before .before .before .before .before .before .before .before .before .before .before .before .before .before .before .before .before .before .before .before .before .before .before .before .before .before .before .before .args in
-    rehearse-0 (s .panel) (s .registers) (s .memory .now) (s .rom .now) (s .book .now) (s .number) (s .room .now) (s .frame .now) (valid-is (s .panel) (s .registers) (s .memory .now) (s .rom .now) (s .book .now) (s .number) (s .room .now) (s .frame .now) true (c .before .before .before .before .before .before .before .before .before .before .before .before .before .before .before .before .before .before .before .before .before .before .before .before .valid .ensures) (c .before .before .before .before .before .before .before .before .before .before .before .before .before .before .before .before .before .before .before .before .before .before .before .valid2 .ensures) (not-false _ (c .before .before .before .before .before .before .before .before .before .before .before .before .before .before .before .before .before .before .before .before .before .before .if1 .left))) (fits-is (s .panel) (s .registers) (s .memory .now) (s .rom .now) (s .book .now) (s .number) (s .room .now) (s .frame .now) true (valid-is (s .panel) (s .registers) (s .memory .now) (s .rom .now) (s .book .now) (s .number) (s .room .now) (s .frame .now) true (c .before .before .before .before .before .before .before .before .before .before .before .before .before .before .before .before .before .before .before .before .before .before .before .before .valid .ensures) (c .before .before .before .before .before .before .before .before .before .before .before .before .before .before .before .before .before .before .before .before .before .before .before .valid2 .ensures) (not-false _ (c .before .before .before .before .before .before .before .before .before .before .before .before .before .before .before .before .before .before .before .before .before .before .if1 .left))) (c .before .before .before .before .before .before .before .before .before .before .before .before .before .before .before .before .before .before .before .before .before .frame-size .ensures .0) (not-false _ (c .before .before .before .before .before .before .before .before .before .before .before .before .before .before .before .before .before .before .before .before .if2 .left))) (c .before .before .before .before .before .before .before .before .before .before .before .before .before .before .before .before .before .before .write .ensures) (λ i. c .before .before .before .before .before .before .before .before .before .before .before .before .before .before .before .before .before .before .before .before .before .before .before .before .before .before .before .shared-slice-known2 .given i .fits) (c .before .before .before .before .before .before .before .before .before .before .before .before .before .before .if3 .left) _ (c .before .before .before .before .before .before .before .before .before .run .ensures) (c .before .before .paint .ensures)
+    rehearse-0 (s .panel) (s .registers) (s .memory .now) (s .rom .now) (s .book .now) (s .number) (s .room .now) (s .frame .now) (valid-is (s .panel) (s .registers) (s .memory .now) (s .rom .now) (s .book .now) (s .number) (s .room .now) (s .frame .now) true (c .before .before .before .before .before .before .before .before .before .before .before .before .before .before .before .before .before .before .before .before .before .before .before .before .valid .ensures) (c .before .before .before .before .before .before .before .before .before .before .before .before .before .before .before .before .before .before .before .before .before .before .before .valid2 .ensures) (not-false _ (c .before .before .before .before .before .before .before .before .before .before .before .before .before .before .before .before .before .before .before .before .before .before .if1 .left))) (fits-is (s .panel) (s .registers) (s .memory .now) (s .rom .now) (s .book .now) (s .number) (s .room .now) (s .frame .now) true (valid-is (s .panel) (s .registers) (s .memory .now) (s .rom .now) (s .book .now) (s .number) (s .room .now) (s .frame .now) true (c .before .before .before .before .before .before .before .before .before .before .before .before .before .before .before .before .before .before .before .before .before .before .before .before .valid .ensures) (c .before .before .before .before .before .before .before .before .before .before .before .before .before .before .before .before .before .before .before .before .before .before .before .valid2 .ensures) (not-false _ (c .before .before .before .before .before .before .before .before .before .before .before .before .before .before .before .before .before .before .before .before .before .before .if1 .left))) (c .before .before .before .before .before .before .before .before .before .before .before .before .before .before .before .before .before .before .before .before .before .frame-size .ensures .0) (not-false _ (c .before .before .before .before .before .before .before .before .before .before .before .before .before .before .before .before .before .before .before .before .if2 .left))) (c .before .before .before .before .before .before .before .before .before .before .before .before .before .before .before .before .before .before .write .ensures) (λ i. c .before .before .before .before .before .before .before .before .before .before .before .before .before .before .before .before .before .before .before .before .before .before .before .before .before .before .before .shared-slice-known2 .given i .fits) (c .before .before .before .before .before .before .before .before .before .before .before .before .before .before .if3 .left) _ (c .before .before .before .before .before .before .before .before .before .run-stopping .ensures) (c .before .before .paint .ensures)
 
 pub rehearse-spec : {M : Type 1} → statement M
 rehearse-spec =
@@ -102,10 +102,10 @@ rehearse-spec =
     same-length
     returns-3
     mul-end
-    slice-reshare-prefix-run
-    slice-aggregate-run
-    slice-aggregate-run-2
-    run-requires
+    slice-reshare-prefix-run-stopping
+    slice-aggregate-run-stopping
+    slice-aggregate-run-stopping-2
+    run-stopping-requires
     paint-requires
     same-length-2
     same-length-3

@@ -1,11 +1,11 @@
--- `run` meets its contract: the tests at the door, in order, then the pairs.
+-- `run_stopping` meets its contract: the tests at the door, in order, then the pairs.
 use mathlib.Core.Path.{sym, _∙_}
 use native.Mathlib.Omega.{arith}
 use Rattle.ground.proofs.Tests.{both-left, both-right}
 use Rattle.controller.proofs.Runs.{run-0, run-1, run-2, run-8}
 use borrow.Author.Needs.{needs}
-use Rattle.controller.proofs.run.run.Statement.{statement}
-use Rattle.controller.proofs.run.run.Tie as tie
+use Rattle.controller.proofs.run.run_stopping.Statement.{statement}
+use Rattle.controller.proofs.run.run_stopping.Tie as tie
 
 valid-requires : tie.Need-valid-requires
 valid-requires c κs = search needs
@@ -60,8 +60,8 @@ returns-4 c =
     let s = c .before .before .before .before .before .before .before .before .args in
     run-1 (s .panel) (s .registers) (s .mem .now) (s .rom .now) (s .log .now) (s .limit) (s .answers .now) (c .before .before .before .valid .ensures) (c .before .before .valid2 .ensures) (c .before .if1 .left) (c .none-taken3 .ensures)
 
-pub run-spec : {M : Type 1} → statement M
-run-spec =
+pub run-stopping-spec : {M : Type 1} → statement M
+run-stopping-spec =
     tie.close
     (tie.spec
     valid-requires
