@@ -12,9 +12,10 @@ use Rattle.ground.specs.Lists.{stored}
 use Rattle.controller.specs.Types.{Panel, Auto, Off, Write, Read, Registers}
 use Rattle.effects.specs.Effect.{withBus, withPointer, isWrite}
 use Rattle.controller.specs.Access.{Pair, dataWriteOf, stepOf}
-use Rattle.effects.specs.Machine.{machine}
-use Rattle.controller.specs.Run.{pairsOf, turnOf, afterTurn, runFrom, short}
-use Rattle.controller.specs.Ready.{standing, pairsFrom, dataOf, Blocked}
+use Rattle.effects.specs.Machine.{Machine, machine}
+use Rattle.controller.specs.Run.{pairsOf, turnOf, afterTurn, Run, runFrom, short}
+use Rattle.controller.specs.Skip.{Skipping, skipBy, skipStep}
+use Rattle.controller.specs.Ready.{standing, standingOn, pairsFrom, dataOf, Blocked}
 
 -- the pair at a place of a log
 abbrev pub pairAt : List ℕ → ℕ → Pair
@@ -111,42 +112,43 @@ write-only Off e = absurd (false≢true e)
 write-only Write e = refl
 write-only Read e = absurd (false≢true e)
 
--- a run over a block of data in auto write: as many pairs on, its bytes stored, the pointer behind them
-module _ (p : Panel) (rom : List ℕ) where
-  none-run : (qs : List Pair) (k : ℕ) (r : Registers) (m a : List ℕ) (g : ℕ) → r .bus .pointer < 65536 → dataOf qs ≡ []
-      → runFrom (stepOf p rom) k qs (standing r m a g)
-      ≡ runFrom (stepOf p rom) (k + length (dataOf qs)) (drop (length (dataOf qs)) qs)
-      (standing (withBus r (withPointer (r .bus) ((r .bus .pointer + length (dataOf qs)) % 65536))) (stored m (r .bus .pointer) (dataOf qs)) a g)
+-- either run over a block of data in auto write: as many pairs on, its bytes stored, the pointer behind them
+module _ (p : Panel) (rom : List ℕ) (on : Bool) (skips : List ℕ) (listed : ℕ) where
+  abbrev behindBlock : List Pair → ℕ → Registers → List ℕ → List ℕ → ℕ → ℕ → Run (Skipping Machine)
+  behindBlock qs k r m a g place =
+      runFrom (skipStep on (stepOf p rom)) (k + length (dataOf qs)) (drop (length (dataOf qs)) qs)
+      (standingOn (standing (withBus r (withPointer (r .bus) ((r .bus .pointer + length (dataOf qs)) % 65536))) (stored m (r .bus .pointer) (dataOf qs)) a g) skips listed (place + length (dataOf qs)))
+
+  none-run : (qs : List Pair) (k : ℕ) (r : Registers) (m a : List ℕ) (g place : ℕ) → r .bus .pointer < 65536 → dataOf qs ≡ []
+      → runFrom (skipStep on (stepOf p rom)) k qs (standingOn (standing r m a g) skips listed place) ≡ behindBlock qs k r m a g place
   unfolding stored
-  none-run qs k r m a g l e =
+  none-run qs k r m a g place l e =
       let i : k ≡ k + 0 = omega arith in
       let j : r .bus .pointer ≡ (r .bus .pointer + 0) % 65536 = omega arith in
-      (λ t. runFrom (stepOf p rom) (i t) qs (standing (withBus r (withPointer (r .bus) (j t))) m a g))
-      ∙ (λ t. runFrom (stepOf p rom) (k + length (sym e t)) (drop (length (sym e t)) qs) (standing (withBus r (withPointer (r .bus) ((r .bus .pointer + length (sym e t)) % 65536))) (stored m (r .bus .pointer) (sym e t)) a g))
+      let h : place ≡ place + 0 = omega arith in
+      (λ t. runFrom (skipStep on (stepOf p rom)) (i t) qs (standingOn (standing (withBus r (withPointer (r .bus) (j t))) m a g) skips listed (h t)))
+      ∙ (λ t. runFrom (skipStep on (stepOf p rom)) (k + length (sym e t)) (drop (length (sym e t)) qs) (standingOn (standing (withBus r (withPointer (r .bus) ((r .bus .pointer + length (sym e t)) % 65536))) (stored m (r .bus .pointer) (sym e t)) a g) skips listed (place + length (sym e t))))
 
-  pub block-run : (qs : List Pair) (k : ℕ) (r : Registers) (m a : List ℕ) (g : ℕ) → r .bus .auto ≡ Write → r .bus .pointer < 65536
-      → runFrom (stepOf p rom) k qs (standing r m a g)
-      ≡ runFrom (stepOf p rom) (k + length (dataOf qs)) (drop (length (dataOf qs)) qs)
-      (standing (withBus r (withPointer (r .bus) ((r .bus .pointer + length (dataOf qs)) % 65536))) (stored m (r .bus .pointer) (dataOf qs)) a g)
+  pub block-run : (qs : List Pair) (k : ℕ) (r : Registers) (m a : List ℕ) (g place : ℕ) → r .bus .auto ≡ Write → r .bus .pointer < 65536
+      → runFrom (skipStep on (stepOf p rom)) k qs (standingOn (standing r m a g) skips listed place) ≡ behindBlock qs k r m a g place
   unfolding runFrom dataOf stored
-  block-run [] k r m a g w l = none-run [] k r m a g l refl
-  block-run (q ∷ qs) k r m a g w l =
-      go (q .kind) (q .byte) (λ b. block-run qs (suc k) (withBus r (withPointer (r .bus) ((r .bus .pointer + 1) % 65536))) (set m (r .bus .pointer) b) a g w (omega arith))
+  block-run [] k r m a g place w l = none-run [] k r m a g place l refl
+  block-run (q ∷ qs) k r m a g place w l =
+      go (q .kind) (q .byte) (λ b. block-run qs (suc k) (withBus r (withPointer (r .bus) ((r .bus .pointer + 1) % 65536))) (set m (r .bus .pointer) b) a g (place + 1) w (omega arith))
     where
       go : (n b : ℕ)
-          → ((b : ℕ) → runFrom (stepOf p rom) (suc k) qs (standing (withBus r (withPointer (r .bus) ((r .bus .pointer + 1) % 65536))) (set m (r .bus .pointer) b) a g)
-          ≡ runFrom (stepOf p rom) (suc k + length (dataOf qs)) (drop (length (dataOf qs)) qs)
-          (standing (withBus r (withPointer (r .bus) (((r .bus .pointer + 1) % 65536 + length (dataOf qs)) % 65536))) (stored (set m (r .bus .pointer) b) ((r .bus .pointer + 1) % 65536) (dataOf qs)) a g))
-          → runFrom (stepOf p rom) k (record { kind = n; byte = b } ∷ qs) (standing r m a g)
-          ≡ runFrom (stepOf p rom) (k + length (dataOf (record { kind = n; byte = b } ∷ qs))) (drop (length (dataOf (record { kind = n; byte = b } ∷ qs))) (record { kind = n; byte = b } ∷ qs))
-          (standing (withBus r (withPointer (r .bus) ((r .bus .pointer + length (dataOf (record { kind = n; byte = b } ∷ qs))) % 65536))) (stored m (r .bus .pointer) (dataOf (record { kind = n; byte = b } ∷ qs))) a g)
+          → ((b : ℕ) → runFrom (skipStep on (stepOf p rom)) (suc k) qs (standingOn (standing (withBus r (withPointer (r .bus) ((r .bus .pointer + 1) % 65536))) (set m (r .bus .pointer) b) a g) skips listed (place + 1))
+          ≡ behindBlock qs (suc k) (withBus r (withPointer (r .bus) ((r .bus .pointer + 1) % 65536))) (set m (r .bus .pointer) b) a g (place + 1))
+          → runFrom (skipStep on (stepOf p rom)) k (record { kind = n; byte = b } ∷ qs) (standingOn (standing r m a g) skips listed place)
+          ≡ behindBlock (record { kind = n; byte = b } ∷ qs) k r m a g place
       go zero b rest =
           let i : suc k + length (dataOf qs) ≡ k + suc (length (dataOf qs)) = omega arith in
           let j : ((r .bus .pointer + 1) % 65536 + length (dataOf qs)) % 65536 ≡ (r .bus .pointer + suc (length (dataOf qs))) % 65536 = omega arith in
+          let h : place + 1 + length (dataOf qs) ≡ place + suc (length (dataOf qs)) = omega arith in
           ap
-          (λ (x : Auto). afterTurn (turnOf (standing r m a g) (dataWriteOf x (machine r m) b))
-          (λ t. runFrom (stepOf p rom) (suc k) qs t)
-          (λ n. record { standing = standing r m a g; taken = k; end = short n })) w
+          (λ (x : Auto). afterTurn (turnOf (standingOn (standing r m a g) skips listed place) (skipBy on (standingOn (standing r m a g) skips listed place .machine) (dataWriteOf x (machine r m) b)))
+          (λ t. runFrom (skipStep on (stepOf p rom)) (suc k) qs t)
+          (λ n. record { standing = standingOn (standing r m a g) skips listed place; taken = k; end = short n })) w
           ∙ rest b
-          ∙ (λ t. runFrom (stepOf p rom) (i t) (drop (length (dataOf qs)) qs) (standing (withBus r (withPointer (r .bus) (j t))) (stored (set m (r .bus .pointer) b) ((r .bus .pointer + 1) % 65536) (dataOf qs)) a g))
-      go (suc n) b rest = none-run (record { kind = suc n; byte = b } ∷ qs) k r m a g l (data-none (record { kind = suc n; byte = b }) qs (λ e. omega arith))
+          ∙ (λ t. runFrom (skipStep on (stepOf p rom)) (i t) (drop (length (dataOf qs)) qs) (standingOn (standing (withBus r (withPointer (r .bus) (j t))) (stored (set m (r .bus .pointer) b) ((r .bus .pointer + 1) % 65536) (dataOf qs)) a g) skips listed (h t)))
+      go (suc n) b rest = none-run (record { kind = suc n; byte = b } ∷ qs) k r m a g place l (data-none (record { kind = suc n; byte = b }) qs (λ e. omega arith))

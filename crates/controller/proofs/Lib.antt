@@ -6,6 +6,7 @@ pub mod Logs
 pub mod Pairwise
 pub mod Readied
 pub mod Runs
+pub mod Skips
 pub mod Splits
 pub mod Splitting
 pub mod Takes

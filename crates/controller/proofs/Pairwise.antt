@@ -1,58 +1,40 @@
 -- The controller's run pair by pair: what each kind of pair comes to.
 use mathlib.Core.Path.{_≡_, refl, ap, sym, subst, _∙_}
-use mathlib.Core.Bool.{Bool, true, false, not, _&&_, _||_, false≢true}
-use mathlib.Core.List.{List}
-use Prim.Native.Nat.{ℕ, suc, _+_, _-_, _*_, _%_, _<_, _≤_}
+use mathlib.Core.Bool.{Bool, true, false, cond, not, _&&_, _||_, false≢true}
+use mathlib.Core.List.{List, [], _∷_}
+use Prim.Native.Nat.{ℕ, zero, suc, _+_, _-_, _*_, _/_, _%_, _<_, _≤_}
+use native.Mathlib.Decide.{decLt}
 use native.Mathlib.Omega.{arith}
-use lib.Dec.{ltb, eqb}
+use lib.Dec.{ltb, eqb, eqb·suc-zero}
 use lib.ListN.{length, getD, take, set}
-use borrow.Author.Tests.{eq-eqb, eqb-true, ltb-true}
+use lib.Seq.{sets, length-sets}
+use borrow.Author.Tests.{eq-eqb, ne-eqb, eqb-true, ltb-true, lt-ltb, le-ltb}
 use Rattle.ground.specs.Lists.{stored}
 use Rattle.ground.proofs.Tests.{cond-has, both, both-left, both-right}
 use Rattle.ground.proofs.Stores.{stored-length}
 use Rattle.state.specs.State.{validPanel, none}
 use Rattle.codes.specs.Command.{isOff}
-use Rattle.controller.specs.Types.{Panel, Display, Auto, Off, Write, Read, Pending, Bus, Registers, Turned, Told, Drawn, Up}
+use Rattle.controller.specs.Types.{Panel, Display, Auto, Off, Write, Read, Pending, Bus, Registers, Turned, Noted, Told, Drawn, Up}
 use Rattle.effects.specs.Effect.{withBus, withPointer, withAuto, withLatch, withPending, withPhase, pushed, movedOf, isWrite, isRead, busStatus}
-use Rattle.controller.specs.Access.{Pair, Step, done, answered, dataWriteOf, dataReadOf, stepOf}
+use Rattle.controller.specs.Access.{Pair, Step, done, answered, refused, dataWriteOf, dataReadOf, stepOf}
 use Rattle.effects.specs.Machine.{Machine, machine}
-use Rattle.controller.specs.Run.{pairsOf, Standing, Turn, went, halted, turnOf, short, runFrom, ranAll, ranOf}
-use Rattle.controller.specs.Ready.{Runs, Tells, Draws, Blocked, pairsFrom, dataOf, standing, TurnedAll, turnedAll, turnedOf}
+use Rattle.controller.specs.Run.{pairsOf, Standing, Turn, went, halted, turnOf, runFrom}
+use Rattle.controller.specs.Skip.{Skipping, passedBy, skipBy, skipStep, ranOnAll, ranOnOf}
+use Rattle.controller.specs.Ready.{Runs, Tells, Draws, Blocked, pairsFrom, dataOf, standing, standingOn, TurnedAll, turnedAll, turnedOf, NotedAll, notedAll, notedOf}
 use Rattle.controller.proofs.Blocks.{pairAt, pairs-behind, write-only, block-run}
 use Rattle.controller.proofs.Tells.{leaves}
 use Rattle.controller.proofs.Laws.{Sounds, sounds-valid, step-sound}
-use Rattle.controller.proofs.Goings.{Proper, goes, stops, Going, going, going-ends, going-halts, going-went, going-done, going-answers}
-use Rattle.controller.proofs.Turns.{Answering, answers, declines, Acting, acts, refuses, step-answering, step-acting}
-
--- the code's turn with number 0 is a pair taken, and with another number one refused
-module _ {t : Turned} {m a : List ℕ} where
-  number-of : (s : Standing Machine) (o : Turn Machine) → turnedAll t m a ≡ turnedOf s o → t .number ≡ turnedOf s o .turned .number
-  number-of s o e = ap (λ (x : TurnedAll). x .turned .number) e
-
-  pub turn-taken : (s : Standing Machine) (o : Turn Machine) → Proper o → turnedAll t m a ≡ turnedOf s o → t .number ≡ 0
-      → o ≡ went (standing (t .registers) m a (t .given))
-  turn-taken s (went x) goes e h =
-      sym (λ i. went (record { machine = machine (e i .turned .registers) (e i .memory); answers = e i .answers; given = e i .turned .given }))
-  turn-taken s (halted (suc n)) stops e h =
-      let z : 0 ≡ suc n = sym h ∙ number-of s (halted (suc n)) e in absurd (let y : ⊥ = omega arith in y)
-
-  pub turn-stopped : (s : Standing Machine) (o : Turn Machine) → turnedAll t m a ≡ turnedOf s o → (t .number ≡ 0 → ⊥) → (k : ℕ)
-      → (o ≡ halted (t .number))
-      × (ranAll (record { number = t .number; place = k; taken = k; answers = t .given; registers = t .registers }) m a
-      ≡ ranOf (record { standing = s; taken = k; end = short (t .number) }))
-  turn-stopped s (went x) e h k = absurd (h (number-of s (went x) e))
-  turn-stopped s (halted n) e h k = (
-    ap halted (sym (number-of s (halted n) e)),
-    λ i. ranAll (record { number = t .number; place = k; taken = k; answers = e i .turned .given; registers = e i .turned .registers }) (e i .memory) (e i .answers),
-  )
+use Rattle.controller.proofs.Splits.{projected}
+use Rattle.controller.proofs.Goings.{Leaves, Proper, goes, stops, Going, going, going-ends, going-halts, going-went, going-done, going-answers}
+use Rattle.controller.proofs.Turns.{Answering, answers, declines, Acting, acts, refuses, step-answering, step-acting, step-number}
 
 answering-proper : (s : Standing Machine) {o : Step Machine} → Answering (s .machine) o → Proper (turnOf s o)
 answering-proper s answers = cond-has Proper (ltb (s .given) (length (s .answers))) goes stops
-answering-proper s declines = stops
+answering-proper s (declines many few) = stops
 
 acting-proper : (s : Standing Machine) {o : Step Machine} → Acting o → Proper (turnOf s o)
 acting-proper s acts = goes
-acting-proper s refuses = stops
+acting-proper s (refuses many few) = stops
 
 pub step-proper : (p : Panel) (rom : List ℕ) (s : Standing Machine) (q : Pair) → Proper (turnOf s (stepOf p rom (s .machine) q))
 step-proper p rom s q = go (eqb (q .kind) 2 || eqb (q .kind) 3) refl
@@ -61,71 +43,178 @@ step-proper p rom s q = go (eqb (q .kind) 2 || eqb (q .kind) 3) refl
     go true e = answering-proper s (step-answering p rom (s .machine) (q .kind) (q .byte) e)
     go false e = acting-proper s (step-acting p rom (s .machine) (q .kind) (q .byte) e)
 
-pub record Running (p : Panel) (rom log : List ℕ) (total : ℕ) (s₀ s : Standing Machine) (i : ℕ) : Type 0 where
-  pub goes-on : Going (stepOf p rom) Sounds log total s₀ s i
+-- what either run keeps: the machine sound, the list's length
+pub record SoundOn (n : ℕ) (s : Skipping Machine) : Type 0 where
+  pub sound : Sounds (s .machine)
+  pub long : length (s .skips) ≡ n
 
-pub running : (p : Panel) (rom log : List ℕ) (total : ℕ) (s₀ : Standing Machine) → Sounds (s₀ .machine) → Running p rom log total s₀ s₀ 0
-running p rom log total s₀ k = record { goes-on = going (stepOf p rom) Sounds (step-sound p rom) log total s₀ k }
+module _ (p : Panel) (rom : List ℕ) (on : Bool) (n : ℕ) where
+  pub skip-sound : (s : Skipping Machine) → SoundOn n s → (q : Pair) → Leaves (SoundOn n) (skipStep on (stepOf p rom) s q)
+  skip-sound s k q = go (stepOf p rom (s .machine) q) (step-sound p rom (s .machine) (k .sound) q)
+    where
+      listing : (m : ℕ) (t u : Bool) → Leaves (SoundOn n) (cond u (cond t (done (record { machine = s .machine; skips = sets (s .skips) (2 * s .listed) (m ∷ s .place ∷ []); listed = s .listed + 1; place = s .place + 1 })) (refused 16)) (refused m))
+      listing m true true = record { sound = k .sound; long = length-sets (s .skips) (2 * s .listed) (m ∷ s .place ∷ []) ∙ k .long }
+      listing m false true = tt
+      listing m t false = tt
 
-module _ {p : Panel} {rom log : List ℕ} {total : ℕ} {s₀ s : Standing Machine} {i : ℕ} (g : Running p rom log total s₀ s i) where
+      go : (o : Step Machine) → Leaves Sounds o → Leaves (SoundOn n) (skipBy on s o)
+      go (done m) l = record { sound = l; long = k .long }
+      go (answered m b) l = record { sound = l; long = k .long }
+      go (refused m) l = listing m (ltb (2 * s .listed + 1) (length (s .skips))) on
+
+-- before pair i of either run: the machine and the answers, the list and the entries in it
+pub record Running (p : Panel) (on : Bool) (rom log : List ℕ) (total : ℕ) (s₀ : Standing (Skipping Machine)) (s : Standing Machine) (skips : List ℕ) (listed i : ℕ) : Type 0 where
+  pub goes-on : Going (skipStep on (stepOf p rom)) (SoundOn (length (s₀ .machine .skips))) log total s₀ (standingOn s skips listed i) i
+
+pub running : (p : Panel) (on : Bool) (rom log : List ℕ) (total : ℕ) (s : Standing Machine) (skips : List ℕ) → Sounds (s .machine)
+    → Running p on rom log total (standingOn s skips 0 0) s skips 0 0
+running p on rom log total s skips k =
+    record { goes-on = going (skipStep on (stepOf p rom)) (SoundOn (length skips)) (skip-sound p rom on (length skips)) log total (standingOn s skips 0 0) (record { sound = k; long = refl }) }
+
+-- what the code's turn and note come to: the larger machine's turn
+pub data Outcome (s : Standing (Skipping Machine)) : Turn (Skipping Machine) → TurnedAll → NotedAll → Type 0 where
+  takes : {t : TurnedAll} {l : ℕ} {skips : List ℕ}
+      → Outcome s (went (standingOn (standing (t .turned .registers) (t .memory) (t .answers) (t .turned .given)) skips l (s .machine .place + 1))) t (notedAll (record { listed = l; number = 0 }) skips)
+  ends : {n m : ℕ}
+      → Outcome s (halted (suc n))
+      (turnedAll (record { number = m; registers = s .machine .machine .registers; given = s .given }) (s .machine .machine .memory) (s .answers))
+      (notedAll (record { listed = s .machine .listed; number = suc n }) (s .machine .skips))
+
+outcome : (on : Bool) (s : Standing (Skipping Machine)) (o : Step Machine) → ((n : ℕ) → o ≡ refused n → (3 ≤ n) × (n ≤ 7))
+    → Outcome s (turnOf s (skipBy on (s .machine) o)) (turnedOf (projected (λ x. x .machine) s) (turnOf (projected (λ x. x .machine) s) o))
+    (notedOf on (turnedOf (projected (λ x. x .machine) s) (turnOf (projected (λ x. x .machine) s) o) .turned .number) (s .machine .place) (s .machine .skips) (s .machine .listed))
+outcome on s (done m) f = still on
+  where
+    still : (on : Bool) → Outcome s (turnOf s (skipBy on (s .machine) (done m))) (turnedOf (projected (λ x. x .machine) s) (went (record { machine = m; answers = s .answers; given = s .given }))) (notedOf on 0 (s .machine .place) (s .machine .skips) (s .machine .listed))
+    still true = takes
+    still false = takes
+outcome on s (answered m b) f = room on (ltb (s .given) (length (s .answers)))
+  where
+    room : (on t : Bool)
+        → Outcome s (cond t (went (record { machine = passedBy (s .machine) m; answers = set (s .answers) (s .given) b; given = s .given + 1 })) (halted 13))
+        (turnedOf (projected (λ x. x .machine) s) (cond t (went (record { machine = m; answers = set (s .answers) (s .given) b; given = s .given + 1 })) (halted 13)))
+        (notedOf on (turnedOf (projected (λ x. x .machine) s) (cond t (went (record { machine = m; answers = set (s .answers) (s .given) b; given = s .given + 1 })) (halted 13)) .turned .number) (s .machine .place) (s .machine .skips) (s .machine .listed))
+    room true true = takes
+    room false true = takes
+    room true false = ends
+    room false false = ends
+outcome on s (refused zero) f = let h = f 0 refl in absurd (let y : ⊥ = omega (arith, h .0) in y)
+outcome true s (refused (suc n)) f =
+    let h = f (suc n) refl in
+    let zero-not : eqb (suc n) 0 ≡ false = eqb·suc-zero n in
+    let not-13 : eqb (suc n) 13 ≡ false = ne-eqb (suc n) 13 (λ e. omega (arith, h .1)) in
+    subst
+    (λ (x : NotedAll). Outcome s (turnOf s (skipBy true (s .machine) (refused (suc n)))) (turnedOf (projected (λ x. x .machine) s) (halted (suc n))) x)
+    (sym (λ i. cond (not (zero-not i) && not (not-13 i))
+    (cond (half (s .machine .listed) (s .machine .skips) i)
+    (notedAll (record { listed = s .machine .listed + 1; number = 0 }) (sets (s .machine .skips) (2 * s .machine .listed) (suc n ∷ s .machine .place ∷ [])))
+    (notedAll (record { listed = s .machine .listed; number = 16 }) (s .machine .skips)))
+    (notedAll (record { listed = s .machine .listed; number = suc n }) (s .machine .skips))))
+    (listing (ltb (2 * s .machine .listed + 1) (length (s .machine .skips))))
+  where
+    half : (l : ℕ) (skips : List ℕ) → ltb l (length skips / 2) ≡ ltb (2 * l + 1) (length skips)
+    half l skips = go (decLt (2 * l + 1) (length skips))
+      where
+        go : Dec (2 * l + 1 < length skips) → ltb l (length skips / 2) ≡ ltb (2 * l + 1) (length skips)
+        go (yes h) = lt-ltb l (length skips / 2) (omega arith) ∙ sym (lt-ltb (2 * l + 1) (length skips) h)
+        go (no h) = le-ltb l (length skips / 2) (omega arith) ∙ sym (le-ltb (2 * l + 1) (length skips) (omega arith))
+
+    listing : (t : Bool)
+        → Outcome s
+        (turnOf s (cond t (done (record { machine = s .machine .machine; skips = sets (s .machine .skips) (2 * s .machine .listed) (suc n ∷ s .machine .place ∷ []); listed = s .machine .listed + 1; place = s .machine .place + 1 })) (refused 16)))
+        (turnedOf (projected (λ x. x .machine) s) (halted (suc n)))
+        (cond t
+        (notedAll (record { listed = s .machine .listed + 1; number = 0 }) (sets (s .machine .skips) (2 * s .machine .listed) (suc n ∷ s .machine .place ∷ [])))
+        (notedAll (record { listed = s .machine .listed; number = 16 }) (s .machine .skips)))
+    listing true = takes
+    listing false = ends
+outcome false s (refused (suc n)) f = ends
+
+module _ {p : Panel} {on : Bool} {rom log : List ℕ} {total : ℕ} {s₀ : Standing (Skipping Machine)} {s : Standing Machine} {skips : List ℕ} {listed i : ℕ}
+    (g : Running p on rom log total s₀ s skips listed i) where
+  abbrev steps : Skipping Machine → Pair → Step (Skipping Machine)
+  steps = skipStep on (stepOf p rom)
+
+  abbrev Kind : Skipping Machine → Type 0
+  Kind = SoundOn (length (s₀ .machine .skips))
+
   pub running-ends : total ≤ i
-      → ranAll (record { number = 0; place = 0; taken = i; answers = s .given; registers = s .machine .registers }) (s .machine .memory) (s .answers)
-      ≡ ranOf (runFrom (stepOf p rom) 0 (take total (pairsOf log)) s₀)
-  running-ends h = ap ranOf (going-ends (stepOf p rom) Sounds (step-sound p rom) (g .goes-on) h)
+      → ranOnAll (record { ran = record { number = 0; place = 0; taken = i; answers = s .given; registers = s .machine .registers }; skipped = listed }) (s .machine .memory) (s .answers) skips
+      ≡ ranOnOf (runFrom steps 0 (take total (pairsOf log)) s₀)
+  running-ends h = ap ranOnOf (going-ends steps Kind (skip-sound p rom on _) (g .goes-on) h)
 
   -- every turn starts from a machine that may be acted on
   pub going-runs : (r : Registers) (mem : List ℕ) → s .machine ≡ machine r mem → validPanel p ≡ true → length rom ≡ 1024 → Runs p r mem rom
   going-runs r mem e v l =
-      let k : Sounds (machine r mem) = subst Sounds e (g .goes-on .sound) in
+      let k : Sounds (machine r mem) = subst Sounds e (g .goes-on .sound .sound) in
       record { panel = v; state = sounds-valid k; lent = both (eq-eqb (length mem) 65536 (k .memory)) (eq-eqb (length rom) 1024 l) }
 
   module _ (h : i < total) (l : 2 * total ≤ length log) where
     running-done : (n : ℕ) → getD log (2 * i) 0 ≡ n → {m : Machine} → stepOf p rom (s .machine) (record { kind = n; byte = getD log (2 * i + 1) 0 }) ≡ done m
-        → Running p rom log total s₀ (record { machine = m; answers = s .answers; given = s .given }) (i + 1)
-    running-done n e x = record { goes-on = going-done (stepOf p rom) Sounds (step-sound p rom) (g .goes-on) h l n e x }
+        → Running p on rom log total s₀ (record { machine = m; answers = s .answers; given = s .given }) skips listed (i + 1)
+    running-done n e x = record { goes-on = going-done steps Kind (skip-sound p rom on _) (g .goes-on) h l n e (ap (skipBy on (standingOn s skips listed i .machine)) x) }
 
     running-answers : (n : ℕ) → getD log (2 * i) 0 ≡ n → {m : Machine} {b : ℕ}
         → stepOf p rom (s .machine) (record { kind = n; byte = getD log (2 * i + 1) 0 }) ≡ answered m b → ltb (s .given) (length (s .answers)) ≡ true
-        → Running p rom log total s₀ (record { machine = m; answers = set (s .answers) (s .given) b; given = s .given + 1 }) (i + 1)
-    running-answers n e x r = record { goes-on = going-answers (stepOf p rom) Sounds (step-sound p rom) (g .goes-on) h l n e x r }
+        → Running p on rom log total s₀ (record { machine = m; answers = set (s .answers) (s .given) b; given = s .given + 1 }) skips listed (i + 1)
+    running-answers n e x r = record { goes-on = going-answers steps Kind (skip-sound p rom on _) (g .goes-on) h l n e (ap (skipBy on (standingOn s skips listed i .machine)) x) r }
 
-    module _ {t : Turned} {m a : List ℕ}
-        (e : turnedAll t m a ≡ turnedOf s (turnOf s (stepOf p rom (s .machine) (pairAt log i)))) where
-      -- a pair taken
-      pub going-on : t .number ≡ 0 → Running p rom log total s₀ (standing (t .registers) m a (t .given)) (i + 1)
-      going-on z =
-          let w = turn-taken s (turnOf s (stepOf p rom (s .machine) (pairAt log i))) (step-proper p rom s (pairAt log i)) e z in
-          record { goes-on = going-went (stepOf p rom) Sounds (step-sound p rom) (g .goes-on) h l w }
+    module _ {t : Turned} {m a : List ℕ} {x : Noted} {b : List ℕ}
+        (e : turnedAll t m a ≡ turnedOf s (turnOf s (stepOf p rom (s .machine) (pairAt log i))))
+        (f : notedAll x b ≡ notedOf on (t .number) i skips listed) where
+      comes : Outcome (standingOn s skips listed i) (turnOf (standingOn s skips listed i) (steps (standingOn s skips listed i .machine) (pairAt log i))) (turnedAll t m a) (notedAll x b)
+      comes =
+          let o = outcome on (standingOn s skips listed i) (stepOf p rom (s .machine) (pairAt log i)) (step-number p rom (s .machine) (getD log (2 * i) 0) (getD log (2 * i + 1) 0)) in
+          subst (λ (y : NotedAll). Outcome (standingOn s skips listed i) (turnOf (standingOn s skips listed i) (steps (standingOn s skips listed i .machine) (pairAt log i))) (turnedAll t m a) y) (sym f)
+          (subst (λ (y : TurnedAll). Outcome (standingOn s skips listed i) (turnOf (standingOn s skips listed i) (steps (standingOn s skips listed i .machine) (pairAt log i))) y (notedOf on (y .turned .number) i skips listed)) (sym e) o)
 
-      -- a pair refused
-      pub going-stops : (t .number ≡ 0 → ⊥)
-          → ranAll (record { number = t .number; place = i; taken = i; answers = t .given; registers = t .registers }) m a
-          ≡ ranOf (runFrom (stepOf p rom) 0 (take total (pairsOf log)) s₀)
-      going-stops z =
-          let w = turn-stopped s (turnOf s (stepOf p rom (s .machine) (pairAt log i))) e z i in
-          w .1 ∙ ap ranOf (going-halts (stepOf p rom) Sounds (step-sound p rom) (g .goes-on) h l (w .0))
+      -- a pair taken, or listed
+      pub going-on : x .number ≡ 0 → Running p on rom log total s₀ (standing (t .registers) m a (t .given)) b (x .listed) (i + 1)
+      going-on z = go _ _ _ comes z refl
+        where
+          go : (o : Turn (Skipping Machine)) (y : TurnedAll) (u : NotedAll) → Outcome (standingOn s skips listed i) o y u → u .noted .number ≡ 0
+              → turnOf (standingOn s skips listed i) (steps (standingOn s skips listed i .machine) (pairAt log i)) ≡ o
+              → Running p on rom log total s₀ (standing (y .turned .registers) (y .memory) (y .answers) (y .turned .given)) (u .skips) (u .noted .listed) (i + 1)
+          go (went _) y u takes z w = record { goes-on = going-went steps Kind (skip-sound p rom on _) (g .goes-on) h l w }
+          go (halted (suc n)) y u ends z w = absurd (let q : ⊥ = omega arith in q)
+
+      -- a pair that stops the run
+      pub going-stops : (x .number ≡ 0 → ⊥)
+          → ranOnAll (record { ran = record { number = x .number; place = i; taken = i; answers = t .given; registers = t .registers }; skipped = x .listed }) m a b
+          ≡ ranOnOf (runFrom steps 0 (take total (pairsOf log)) s₀)
+      going-stops z = go _ _ _ comes z refl
+        where
+          go : (o : Turn (Skipping Machine)) (y : TurnedAll) (u : NotedAll) → Outcome (standingOn s skips listed i) o y u → (u .noted .number ≡ 0 → ⊥)
+              → turnOf (standingOn s skips listed i) (steps (standingOn s skips listed i .machine) (pairAt log i)) ≡ o
+              → ranOnAll (record { ran = record { number = u .noted .number; place = i; taken = i; answers = y .turned .given; registers = y .turned .registers }; skipped = u .noted .listed }) (y .memory) (y .answers) (u .skips)
+              ≡ ranOnOf (runFrom steps 0 (take total (pairsOf log)) s₀)
+          go (went _) y u takes z w = absurd (z refl)
+          go (halted (suc n)) y u ends z w = ap ranOnOf (going-halts steps Kind (skip-sound p rom on _) (g .goes-on) h l w)
 
   -- a block of data in auto write
   pub going-block : {b : Bool} → b ≡ isWrite (s .machine .registers .bus .auto) → (eqb (getD log (2 * i) 0) 0 && b) ≡ true
       → {m : List ℕ} {end : ℕ} {next : Bus}
       → Blocked (s .machine .memory) (s .machine .registers .bus .pointer) log i total m end
       → next ≡ withPointer (s .machine .registers .bus) ((s .machine .registers .bus .pointer + (end - i)) % 65536)
-      → Running p rom log total s₀ (standing (withBus (s .machine .registers) next) m (s .answers) (s .given)) end
+      → Running p on rom log total s₀ (standing (withBus (s .machine .registers) next) m (s .answers) (s .given)) skips listed end
   going-block {b} e w {m} {end} k f =
       let j : (s .machine .registers .bus .pointer + (end - i)) % 65536 ≡ (s .machine .registers .bus .pointer + length (dataOf (pairsFrom log i total))) % 65536 = omega (arith, k .reaches) in
-      subst (λ (x : Bus). Running p rom log total s₀ (standing (withBus (s .machine .registers) x) m (s .answers) (s .given)) end) (sym f)
+      subst (λ (x : Bus). Running p on rom log total s₀ (standing (withBus (s .machine .registers) x) m (s .answers) (s .given)) skips listed end) (sym f)
       (record {
         goes-on = record {
           inside = k .inside;
-          sound = record { display = g .goes-on .sound .display; bus = g .goes-on .sound .bus; memory = ap length (k .holds) ∙ stored-length (s .machine .memory) _ _ ∙ g .goes-on .sound .memory };
+          sound = record {
+            sound = record { display = g .goes-on .sound .sound .display; bus = g .goes-on .sound .sound .bus; memory = ap length (k .holds) ∙ stored-length (s .machine .memory) _ _ ∙ g .goes-on .sound .sound .memory };
+            long = g .goes-on .sound .long;
+          };
           room = g .goes-on .room;
-          left = (λ t. runFrom (stepOf p rom) (k .reaches t) (pairsFrom log (k .reaches t) total) (standing (withBus (s .machine .registers) (withPointer (s .machine .registers .bus) (j t))) (k .holds t) (s .answers) (s .given)))
+          left = (λ t. runFrom steps (k .reaches t) (pairsFrom log (k .reaches t) total) (standingOn (standing (withBus (s .machine .registers) (withPointer (s .machine .registers .bus) (j t))) (k .holds t) (s .answers) (s .given)) skips listed (k .reaches t)))
               ∙ sym
               (ap
-              (λ (qs : List Pair). runFrom (stepOf p rom) (i + length (dataOf (pairsFrom log i total))) qs
-              (standing (withBus (s .machine .registers) (withPointer (s .machine .registers .bus) ((s .machine .registers .bus .pointer + length (dataOf (pairsFrom log i total))) % 65536))) (stored (s .machine .memory) (s .machine .registers .bus .pointer) (dataOf (pairsFrom log i total))) (s .answers) (s .given)))
+              (λ (qs : List Pair). runFrom steps (i + length (dataOf (pairsFrom log i total))) qs
+              (standingOn (standing (withBus (s .machine .registers) (withPointer (s .machine .registers .bus) ((s .machine .registers .bus .pointer + length (dataOf (pairsFrom log i total))) % 65536))) (stored (s .machine .memory) (s .machine .registers .bus .pointer) (dataOf (pairsFrom log i total))) (s .answers) (s .given)) skips listed (i + length (dataOf (pairsFrom log i total)))))
               (pairs-behind log total i (length (dataOf (pairsFrom log i total)))))
-              ∙ sym (block-run p rom (pairsFrom log i total) i (s .machine .registers) (s .machine .memory) (s .answers) (s .given) (write-only (s .machine .registers .bus .auto) (sym e ∙ both-right (eqb (getD log (2 * i) 0) 0) b w)) (k .low))
+              ∙ sym (block-run p rom on skips listed (pairsFrom log i total) i (s .machine .registers) (s .machine .memory) (s .answers) (s .given) i (write-only (s .machine .registers .bus .auto) (sym e ∙ both-right (eqb (getD log (2 * i) 0) 0) b w)) (k .low))
               ∙ g .goes-on .left;
         };
       })
@@ -141,10 +230,10 @@ read-only Write e = absurd (false≢true e)
 read-only Read e = refl
 
 -- the pairs that are taken apart from the others
-module _ {p : Panel} {rom log : List ℕ} {total : ℕ} {s₀ : Standing Machine} {d : Display} {b : Bus} {m a : List ℕ} {n i : ℕ}
-    (g : Running p rom log total s₀ (standing (record { display = d; bus = b }) m a n) i) where
-  pub going-kept : {after : List ℕ} → after ≡ m → Running p rom log total s₀ (standing (record { display = d; bus = b }) after a n) i
-  going-kept e = subst (λ (x : List ℕ). Running p rom log total s₀ (standing (record { display = d; bus = b }) x a n) i) (sym e) g
+module _ {p : Panel} {on : Bool} {rom log : List ℕ} {total : ℕ} {s₀ : Standing (Skipping Machine)} {d : Display} {b : Bus} {m a : List ℕ} {n : ℕ} {skips : List ℕ} {listed i : ℕ}
+    (g : Running p on rom log total s₀ (standing (record { display = d; bus = b }) m a n) skips listed i) where
+  pub going-kept : {after : List ℕ} → after ≡ m → Running p on rom log total s₀ (standing (record { display = d; bus = b }) after a n) skips listed i
+  going-kept e = subst (λ (x : List ℕ). Running p on rom log total s₀ (standing (record { display = d; bus = b }) x a n) skips listed i) (sym e) g
 
   -- room for an answer, as the loop's tests have it
   pub room-left : (k : ℕ) → (eqb (getD log (2 * i) 0) k && ltb n (length a)) ≡ true → n < length a
@@ -155,16 +244,16 @@ module _ {p : Panel} {rom log : List ℕ} {total : ℕ} {s₀ : Standing Machine
 
   module _ (h : i < total) (l : 2 * total ≤ length log) where
     pub going-states : (eqb (getD log (2 * i) 0) 3 && ltb n (length a)) ≡ true → {v : ℕ} → v ≡ busStatus b (d .phase)
-        → Running p rom log total s₀ (standing (record { display = d; bus = b }) m (set a n v) (n + 1)) (i + 1)
+        → Running p on rom log total s₀ (standing (record { display = d; bus = b }) m (set a n v) (n + 1)) skips listed (i + 1)
     going-states t f =
         running-answers g h l 3 (eqb-true (getD log (2 * i) 0) 3 (both-left (eqb (getD log (2 * i) 0) 3) (ltb n (length a)) t))
         (ap (answered (machine (record { display = d; bus = b }) m)) (sym f)) (both-right (eqb (getD log (2 * i) 0) 3) (ltb n (length a)) t)
 
-    pub going-ticks : getD log (2 * i) 0 ≡ 4 → Running p rom log total s₀ (standing (record { display = withPhase d (not (d .phase)); bus = b }) m a n) (i + 1)
+    pub going-ticks : getD log (2 * i) 0 ≡ 4 → Running p on rom log total s₀ (standing (record { display = withPhase d (not (d .phase)); bus = b }) m a n) skips listed (i + 1)
     going-ticks e = running-done g h l 4 e refl
 
     pub going-leaves : (eqb (getD log (2 * i) 0) 1 && eqb (getD log (2 * i + 1) 0) 0xb2) ≡ true → {next : Bus} → next ≡ withAuto b Off
-        → Running p rom log total s₀ (standing (record { display = d; bus = withPending next none }) m a n) (i + 1)
+        → Running p on rom log total s₀ (standing (record { display = d; bus = withPending next none }) m a n) skips listed (i + 1)
     going-leaves t f =
         running-done g h l 1 (eqb-true (getD log (2 * i) 0) 1 (both-left (eqb (getD log (2 * i) 0) 1) (eqb (getD log (2 * i + 1) 0) 0xb2) t))
         (leaves p rom m d b (getD log (2 * i + 1) 0)
@@ -172,7 +261,7 @@ module _ {p : Panel} {rom log : List ℕ} {total : ℕ} {s₀ : Standing Machine
 
     pub going-fetches : {read : Bool} → read ≡ isRead (b .auto) → ((eqb (getD log (2 * i) 0) 2 && ltb n (length a)) && read) ≡ true → {next : Bus}
         → next ≡ withPointer (withLatch b (getD m (b .pointer) 0)) (movedOf Up (b .pointer))
-        → Running p rom log total s₀ (standing (record { display = d; bus = withPointer b (next .pointer) }) m (set a n (next .latch)) (n + 1)) (i + 1)
+        → Running p on rom log total s₀ (standing (record { display = d; bus = withPointer b (next .pointer) }) m (set a n (next .latch)) (n + 1)) skips listed (i + 1)
     going-fetches {read} e t f =
         let u = both-left (eqb (getD log (2 * i) 0) 2 && ltb n (length a)) read t in
         running-answers g h l 2 (eqb-true (getD log (2 * i) 0) 2 (both-left (eqb (getD log (2 * i) 0) 2) (ltb n (length a)) u))
@@ -182,14 +271,14 @@ module _ {p : Panel} {rom log : List ℕ} {total : ℕ} {s₀ : Standing Machine
 
     module _ {off : Bool} (e : off ≡ isOff (b .auto)) where
       pub going-pushes : (eqb (getD log (2 * i) 0) 0 && off) ≡ true → {q : Pending} → q ≡ pushed (b .pending) (getD log (2 * i + 1) 0)
-          → Running p rom log total s₀ (standing (record { display = d; bus = withPending b q }) m a n) (i + 1)
+          → Running p on rom log total s₀ (standing (record { display = d; bus = withPending b q }) m a n) skips listed (i + 1)
       going-pushes t f =
           running-done g h l 0 (eqb-true (getD log (2 * i) 0) 0 (both-left (eqb (getD log (2 * i) 0) 0) off t))
           (ap (λ (x : Auto). dataWriteOf x (machine (record { display = d; bus = b }) m) (getD log (2 * i + 1) 0)) (off-only (b .auto) (sym e ∙ both-right (eqb (getD log (2 * i) 0) 0) off t))
           ∙ (λ t. done (machine (record { display = d; bus = withPending b (sym f t) }) m)))
 
       pub going-reads : ((eqb (getD log (2 * i) 0) 2 && ltb n (length a)) && off) ≡ true
-          → Running p rom log total s₀ (standing (record { display = d; bus = b }) m (set a n (b .latch)) (n + 1)) (i + 1)
+          → Running p on rom log total s₀ (standing (record { display = d; bus = b }) m (set a n (b .latch)) (n + 1)) skips listed (i + 1)
       going-reads t =
           let u = both-left (eqb (getD log (2 * i) 0) 2 && ltb n (length a)) off t in
           running-answers g h l 2 (eqb-true (getD log (2 * i) 0) 2 (both-left (eqb (getD log (2 * i) 0) 2) (ltb n (length a)) u))
@@ -197,13 +286,13 @@ module _ {p : Panel} {rom log : List ℕ} {total : ℕ} {s₀ : Standing Machine
           (both-right (eqb (getD log (2 * i) 0) 2) (ltb n (length a)) u)
 
       pub going-tells : {told : Told} {after : List ℕ} → Tells b m (eqb (getD log (2 * i) 0) 1 && off) (getD log (2 * i + 1) 0) told after → told .done ≡ true
-          → Running p rom log total s₀ (standing (record { display = d; bus = told .bus }) after a n) (i + 1)
+          → Running p on rom log total s₀ (standing (record { display = d; bus = told .bus }) after a n) skips listed (i + 1)
       going-tells k t =
           running-done g h l 1 (eqb-true (getD log (2 * i) 0) 1 (both-left (eqb (getD log (2 * i) 0) 1) off (k .quiet t)))
           (k .acts t (sym e ∙ both-right (eqb (getD log (2 * i) 0) 1) off (k .quiet t)) p rom d)
 
       pub going-draws : {drawn : Drawn} → Draws d (eqb (getD log (2 * i) 0) 1 && off) (getD log (2 * i + 1) 0) drawn → drawn .done ≡ true
-          → Running p rom log total s₀ (standing (record { display = drawn .display; bus = withPending b none }) m a n) (i + 1)
+          → Running p on rom log total s₀ (standing (record { display = drawn .display; bus = withPending b none }) m a n) skips listed (i + 1)
       going-draws k t =
           running-done g h l 1 (eqb-true (getD log (2 * i) 0) 1 (both-left (eqb (getD log (2 * i) 0) 1) off (k .quiet t)))
           (k .acts t b (sym e ∙ both-right (eqb (getD log (2 * i) 0) 1) off (k .quiet t)) p rom m)

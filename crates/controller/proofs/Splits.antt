@@ -33,7 +33,7 @@ behindTurn front (went t) = went (behind front t)
 behindTurn front (halted n) = halted n
 
 module _ {M : Type 0} (step : M → Pair → Step M) where
-  not-whole : {A : Type 0} {s t : Standing M} {k j n : ℕ} → _≡_ {A = Run M} (record { standing = s; taken = k; end = short n }) (ended t j) → A
+  pub not-whole : {A : Type 0} {s t : Standing M} {k j n : ℕ} → _≡_ {A = Run M} (record { standing = s; taken = k; end = short n }) (ended t j) → A
   not-whole {n = n} e =
       let f : short n ≡ whole = ap (λ (x : Run M). x .end) e in
       let z : _≡_ {A = ℕ} 0 1 = cc in

@@ -1,9 +1,10 @@
--- One turn of a run: which steps answer, that a refusal's number is never 0, and what the code's turn comes to.
+-- One turn of a run: which steps answer, that a refusal's number is 3 to 7, and what the code's turn comes to.
 use mathlib.Core.Path.{_≡_, refl, ap, sym, subst, _∙_}
 use mathlib.Core.Logic.{_⊎_, inl, inr}
 use mathlib.Core.Bool.{Bool, true, false, cond, _||_, true≢false}
 use mathlib.Core.List.{List}
-use Prim.Native.Nat.{ℕ, suc, _+_}
+use Prim.Native.Nat.{ℕ, suc, _+_, _<_, _≤_}
+use native.Mathlib.Omega.{arith}
 use lib.Dec.{ltb, leb, eqb, eqb·suc-zero}
 use lib.ListN.{length, set}
 use borrow.Author.Tests.{eqb-true}
@@ -16,35 +17,45 @@ use Rattle.effects.specs.Machine.{Machine, machine}
 use Rattle.controller.specs.Run.{went, halted, turnOf}
 use Rattle.controller.specs.Ready.{standing, turnedAll, turnedOf, takenOf, AnsweredAll, answeredAll, answeredOf}
 
--- from s a step that answers and leaves memory, or is refused by a number
+-- from s a step that answers and leaves memory, or is refused by a number from 3 to 7
 pub data Answering (s : Machine) : Step Machine → Type 0 where
   answers : {r : Registers} {b : ℕ} → Answering s (answered (machine r (s .memory)) b)
-  declines : {n : ℕ} → Answering s (refused (suc n))
+  declines : {n : ℕ} → 2 ≤ n → n < 7 → Answering s (refused (suc n))
 
--- a step that acts without an answer, or is refused by a number
+-- a step that acts without an answer, or is refused by a number from 3 to 7
 pub data Acting : Step Machine → Type 0 where
   acts : {s : Machine} → Acting (done s)
-  refuses : {n : ℕ} → Acting (refused (suc n))
+  refuses : {n : ℕ} → 2 ≤ n → n < 7 → Acting (refused (suc n))
+
+abbrev refusalOf : Step Machine → ℕ
+refusalOf (done s) = 0
+refusalOf (answered s b) = 0
+refusalOf (refused n) = n
+
+abbrev kindOf : Step Machine → ℕ
+kindOf (done s) = 0
+kindOf (answered s b) = 0
+kindOf (refused n) = 1
 
 module _ (p : Panel) (rom : List ℕ) (s : Machine) where
   pub read-answering : (a : Auto) → Answering s (dataReadOf a s)
   read-answering Off = answers
-  read-answering Write = declines
+  read-answering Write = declines {n = 6} (omega arith) (omega arith)
   read-answering Read = answers
 
   pub write-acting : (a : Auto) (b : ℕ) → Acting (dataWriteOf a s b)
   write-acting Off b = acts
   write-acting Write b = acts
-  write-acting Read b = refuses
+  write-acting Read b = refuses {n = 6} (omega arith) (omega arith)
 
   obey-acting : (k : Command) → Acting (obeyOf p rom s k)
   obey-acting k =
       cond-has Acting (endsAuto k || isOff (s .registers .bus .auto))
-      (cond-has Acting (leb (neededOf k) (s .registers .bus .pending .count)) acts refuses) refuses
+      (cond-has Acting (leb (neededOf k) (s .registers .bus .pending .count)) acts (refuses {n = 5} (omega arith) (omega arith))) (refuses {n = 4} (omega arith) (omega arith))
 
   pub command-acting : (d : Decoded) → Acting (commandOf p rom s d)
   command-acting (Defined k) = obey-acting k
-  command-acting Undefined = refuses
+  command-acting Undefined = refuses {n = 3} (omega arith) (omega arith)
 
   -- kinds 2 and 3 answer
   pub step-answering : (k b : ℕ) → (eqb k 2 || eqb k 3) ≡ true → Answering s (stepOf p rom s (record { kind = k; byte = b }))
@@ -64,7 +75,23 @@ module _ (p : Panel) (rom : List ℕ) (s : Machine) where
       go false true h = absurd (true≢false h)
       go false false h =
           cond-has Acting (eqb k 0) (write-acting (s .registers .bus .auto) b)
-          (cond-has Acting (eqb k 1) (command-acting (decodeOf b)) (cond-has Acting (eqb k 4) acts refuses))
+          (cond-has Acting (eqb k 1) (command-acting (decodeOf b)) (cond-has Acting (eqb k 4) acts (refuses {n = 2} (omega arith) (omega arith))))
+
+  -- a refused pair's number
+  pub step-number : (k b n : ℕ) → stepOf p rom s (record { kind = k; byte = b }) ≡ refused n → (3 ≤ n) × (n ≤ 7)
+  step-number k b n e = go (eqb k 2 || eqb k 3) refl
+    where
+      by-answering : (o : Step Machine) → Answering s o → o ≡ refused n → (3 ≤ n) × (n ≤ 7)
+      by-answering (refused (suc m)) (declines many few) f = let g : suc m ≡ n = ap refusalOf f in (omega arith, omega arith)
+      by-answering (answered x c) answers f = let g : _≡_ {A = ℕ} 0 1 = ap kindOf f in absurd (let y : ⊥ = omega arith in y)
+
+      by-acting : (o : Step Machine) → Acting o → o ≡ refused n → (3 ≤ n) × (n ≤ 7)
+      by-acting (refused (suc m)) (refuses many few) f = let g : suc m ≡ n = ap refusalOf f in (omega arith, omega arith)
+      by-acting (done x) acts f = let g : _≡_ {A = ℕ} 0 1 = ap kindOf f in absurd (let y : ⊥ = omega arith in y)
+
+      go : (t : Bool) → (eqb k 2 || eqb k 3) ≡ t → (3 ≤ n) × (n ≤ 7)
+      go true h = by-answering _ (step-answering k b h) e
+      go false h = by-acting _ (step-acting k b h) e
 
 -- what the code's turn comes to
 module _ (r : Registers) (m answers₀ : List ℕ) (given : ℕ) {a : Acted} {m′ : List ℕ} where
@@ -73,7 +100,7 @@ module _ (r : Registers) (m answers₀ : List ℕ) (given : ℕ) {a : Acted} {m�
       → turnedAll x m′ answers₀ ≡ turnedOf (standing r m answers₀ given) (turnOf (standing r m answers₀ given) o)
   turn-taken (done s) acts e h =
       ap (λ (x : Turned). turnedAll x m′ answers₀) h ∙ (λ i. turnedAll (takenOf (e i .acted) r given) (e i .memory) answers₀)
-  turn-taken (refused (suc n)) refuses e h =
+  turn-taken (refused (suc n)) (refuses many few) e h =
       ap (λ (x : Turned). turnedAll x m′ answers₀) h ∙ (λ i. turnedAll (takenOf (e i .acted) r given) (e i .memory) answers₀)
       ∙ ap
       (λ (t : Bool). turnedAll (cond t (record { number = 0; registers = r; given = given }) (record { number = suc n; registers = r; given = given })) m answers₀)
@@ -94,7 +121,7 @@ module _ (r : Registers) (m answers₀ : List ℕ) (given : ℕ) {a : Acted} {m�
           ≡ turnedOf (standing r m answers₀ given) (cond t (went (record { machine = s; answers = set answers₀ given b; given = given + 1 })) (halted 13))
       go true = refl
       go false = refl
-  turn-answered (refused (suc n)) declines e h =
+  turn-answered (refused (suc n)) (declines many few) e h =
       (λ i. turnedAll (h i .turned) m′ (h i .answers))
       ∙ (λ i. turnedAll (answeredOf (e i .acted) r answers₀ given .turned) (e i .memory) (answeredOf (e i .acted) r answers₀ given .answers))
       ∙ ap

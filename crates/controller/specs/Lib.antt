@@ -2,4 +2,5 @@ pub mod Types
 pub mod Access
 pub mod Run
 pub mod Split
+pub mod Skip
 pub mod Ready

@@ -1,19 +1,21 @@
 -- What inner routines rest on, tested once at the door, and what they give.
 use mathlib.Core.Path.{_≡_}
-use mathlib.Core.Bool.{Bool, true, false, cond}
+use mathlib.Core.Bool.{Bool, true, false, cond, not, _&&_}
 use mathlib.Core.List.{List, [], _∷_}
-use Prim.Native.Nat.{ℕ, _+_, _-_, _<_, _≤_}
+use Prim.Native.Nat.{ℕ, _+_, _-_, _*_, _/_, _<_, _≤_}
 use lib.Dec.{ltb, eqb}
 use lib.ListN.{length, take, drop, set}
+use lib.Seq.{sets}
 use Rattle.ground.specs.Lists.{stored}
 use Rattle.state.specs.State.{validPanel, validRegisters, none}
 use Rattle.display.specs.Frame.{lentLengths}
-use Rattle.controller.specs.Types.{Panel, Display, Bus, Registers, Acted, Turned, Told, Drawn}
+use Rattle.controller.specs.Types.{Panel, Display, Bus, Registers, Acted, Turned, Noted, Told, Drawn}
 use Rattle.codes.specs.Command.{isOff}
 use Rattle.effects.specs.Effect.{withPending}
 use Rattle.controller.specs.Access.{Pair, code, done, stepOf}
 use Rattle.effects.specs.Machine.{Machine, machine}
 use Rattle.controller.specs.Run.{pairsOf, Standing, Turn, went, halted}
+use Rattle.controller.specs.Skip.{Skipping}
 
 -- a run under way
 pub record Runs (p : Panel) (r : Registers) (mem rom : List ℕ) : Type 0 where
@@ -23,6 +25,11 @@ pub record Runs (p : Panel) (r : Registers) (mem rom : List ℕ) : Type 0 where
 
 abbrev pub standing : Registers → List ℕ → List ℕ → ℕ → Standing Machine
 standing r mem answers given = record { machine = machine r mem; answers = answers; given = given }
+
+-- a run under way, its list of skipped pairs and the pair to come
+abbrev pub standingOn : {M : Type 0} → Standing M → List ℕ → ℕ → ℕ → Standing (Skipping M)
+standingOn s skips listed place =
+    record { machine = record { machine = s .machine; skips = skips; listed = listed; place = place }; answers = s .answers; given = s .given }
 
 -- one pair of a run, the display memory and the answer buffer then
 pub record TurnedAll : Type 0 where
@@ -62,6 +69,23 @@ answeredOf a r answers given =
     (answeredAll (record { number = 0; registers = a .registers; given = given + 1 }) (set answers given (a .answer)))
     (answeredAll (record { number = 13; registers = r; given = given }) answers))
     (answeredAll (record { number = a .number; registers = r; given = given }) answers)
+
+-- a pair's number behind its turn, and the list of skipped pairs then
+pub record NotedAll : Type 0 where
+  pub noted : Noted
+  pub skips : List ℕ
+
+abbrev pub notedAll : Noted → List ℕ → NotedAll
+notedAll noted skips = record { noted = noted; skips = skips }
+
+-- 13 stops either run; 16 where the list is full
+abbrev pub notedOf : Bool → ℕ → ℕ → List ℕ → ℕ → NotedAll
+notedOf on n place skips listed =
+    cond ((on && not (eqb n 0)) && not (eqb n 13))
+    (cond (ltb listed (length skips / 2))
+    (notedAll (record { listed = listed + 1; number = 0 }) (sets skips (2 * listed) (n ∷ place ∷ [])))
+    (notedAll (record { listed = listed; number = 16 }) skips))
+    (notedAll (record { listed = listed; number = n }) skips)
 
 -- the pairs of a log from one place up to another
 abbrev pub pairsFrom : List ℕ → ℕ → ℕ → List Pair

@@ -22,6 +22,8 @@ pub use Rattle.sight.specs.declared.position.Position.{Position}
 pub use Rattle.sight.specs.declared.position.Position.the-variants.{At, Nowhere}
 pub use Rattle.controller.specs.declared.access.Acted.{Acted}
 pub use Rattle.controller.specs.declared.run.Ran.{Ran}
+pub use Rattle.controller.specs.declared.run.RanOn.{RanOn}
+pub use Rattle.controller.specs.declared.run.Noted.{Noted}
 pub use Rattle.controller.specs.declared.run.Turned.{Turned}
 pub use Rattle.controller.specs.declared.run.Told.{Told}
 pub use Rattle.controller.specs.declared.run.Drawn.{Drawn}

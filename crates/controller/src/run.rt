@@ -6,8 +6,9 @@ ghost use Prim.Native.Nat.{_+_, _*_, _%_, _≤_};
 ghost use lib.ListN.{length, take};
 ghost use Rattle.effects.specs.Machine.{machine};
 ghost use Rattle.controller.specs.Access.{stepOf};
-ghost use Rattle.controller.specs.Run.{turnOf, runFrom, ranOf, ranAll, stoppingOf, pairsOf};
-ghost use Rattle.controller.specs.Ready.{Runs, Tells, Draws, Blocked, standing, turnedAll, turnedOf, takenOf, answeredAll, answeredOf};
+ghost use Rattle.controller.specs.Run.{turnOf, runFrom, ranAll, stoppingOf, pairsOf};
+ghost use Rattle.controller.specs.Skip.{skipStep, begunOn, ranOnAll, ranOnOf, runBy, runOf};
+ghost use Rattle.controller.specs.Ready.{Runs, Tells, Draws, Blocked, standing, turnedAll, turnedOf, takenOf, answeredAll, answeredOf, notedAll, notedOf};
 use crate::access::Acted;
 use crate::access::step;
 use crate::store::change;
@@ -45,6 +46,18 @@ pub struct Ran {
 pub(crate) struct Turned {
     pub registers: Registers,
     pub given: usize,
+    pub number: u8,
+}
+
+// A run that goes on after a refusal: what a run answers, and the pairs listed.
+pub struct RanOn {
+    pub ran: Ran,
+    pub skipped: usize,
+}
+
+// What a pair's number comes to: 0 where the run goes on, else the number it stops by; the pairs listed so far.
+pub struct Noted {
+    pub listed: usize,
     pub number: u8,
 }
 
@@ -330,7 +343,25 @@ fn passed(bus: Bus, count: usize) -> Bus
     }
 }
 
-// The first `total` pairs of a log, on a machine that is known to be valid.
+// A pair behind its turn: where the run is skipping, number and place of a refused one go into the list, 16 where that is full. 13 stops either run.
+pub fn note(skipping: bool, number: u8, place: usize, skips: &mut [usize], listed: usize) -> Noted
+    ensures { λ r. ⌜ notedAll r (now (skips .exit)) ≡ notedOf skipping number place (now (skips .entry)) listed ⌝ }
+{
+    if skipping & (number != 0) & (number != 13) {
+        if listed < skips.len() / 2 {
+            skips[2 * listed] = number as usize;
+            skips[2 * listed + 1] = place;
+            return Noted {
+                listed: listed + 1,
+                number: 0,
+            };
+        }
+        return Noted { listed, number: 16 };
+    }
+    Noted { listed, number }
+}
+
+// The first `total` pairs of a log, on a machine that is known to be valid; one loop for the run that stops and the one that skips.
 fn pairs(
     panel: Panel,
     registers: Registers,
@@ -339,14 +370,17 @@ fn pairs(
     log: &[u8],
     total: usize,
     answers: &mut [u8],
-) -> Ran
+    skips: &mut [usize],
+    skipping: bool,
+) -> RanOn
     requires { ⌜ Runs panel registers (now mem) (now rom) ⌝ }
     requires { ⌜ 2 * total ≤ length (now log) ⌝ }
-    ensures { λ r. ⌜ ranAll r (now (mem .exit)) (now (answers .exit)) ≡ ranOf (runFrom (stepOf panel (now (rom .entry))) 0 (take total (pairsOf (now (log .entry)))) (standing registers (now (mem .entry)) (now (answers .entry)) 0)) ⌝ }
+    ensures { λ r. ⌜ ranOnAll r (now (mem .exit)) (now (answers .exit)) (now (skips .exit)) ≡ ranOnOf (runFrom (skipStep skipping (stepOf panel (now (rom .entry)))) 0 (take total (pairsOf (now (log .entry)))) (begunOn registers (now (mem .entry)) (now (answers .entry)) (now (skips .entry)))) ⌝ }
 {
     let mut display = registers.display;
     let mut bus = registers.bus;
     let mut given: usize = 0;
+    let mut listed: usize = 0;
     let mut i: usize = 0;
     while i < total {
         let kind = log[2 * i];
@@ -432,45 +466,117 @@ fn pairs(
             kind,
             byte,
         );
-        let number = turned.number;
         let after = turned.registers;
         display = after.display;
         bus = after.bus;
         given = turned.given;
+        let noted = note(skipping, turned.number, i, skips, listed);
+        let number = noted.number;
+        listed = noted.listed;
         if number != 0 {
-            return Ran {
-                number,
-                place: i,
-                taken: i,
-                answers: given,
-                registers: Registers { display, bus },
+            return RanOn {
+                ran: Ran {
+                    number,
+                    place: i,
+                    taken: i,
+                    answers: given,
+                    registers: Registers { display, bus },
+                },
+                skipped: listed,
             };
         }
         i += 1;
     }
-    Ran {
-        number: 0,
-        place: 0,
-        taken: i,
-        answers: given,
-        registers: Registers { display, bus },
+    RanOn {
+        ran: Ran {
+            number: 0,
+            place: 0,
+            taken: i,
+            answers: given,
+            registers: Registers { display, bus },
+        },
+        skipped: listed,
     }
 }
 
 // No pair taken.
-fn none_taken(number: u8, place: usize, registers: Registers) -> Ran
-    ensures { λ r. ⌜ r ≡ record { number = number; place = place; taken = 0; answers = 0; registers = registers } ⌝ }
+fn none_taken(number: u8, place: usize, registers: Registers) -> RanOn
+    ensures { λ r. ⌜ r ≡ record { ran = record { number = number; place = place; taken = 0; answers = 0; registers = registers }; skipped = 0 } ⌝ }
 {
-    Ran {
-        number,
-        place,
-        taken: 0,
-        answers: 0,
-        registers,
+    RanOn {
+        ran: Ran {
+            number,
+            place,
+            taken: 0,
+            answers: 0,
+            registers,
+        },
+        skipped: 0,
     }
 }
 
 // At most `limit` pairs of a log: the tests at the door, then pair after pair.
+fn enter(
+    panel: Panel,
+    registers: Registers,
+    mem: &mut [u8],
+    rom: &[u8],
+    log: &[u8],
+    limit: usize,
+    answers: &mut [u8],
+    skips: &mut [usize],
+    skipping: bool,
+) -> RanOn
+    ensures { λ r. ⌜ ranOnAll r (now (mem .exit)) (now (answers .exit)) (now (skips .exit)) ≡ runBy skipping panel registers (now (mem .entry)) (now (rom .entry)) (now (log .entry)) limit (now (answers .entry)) (now (skips .entry)) ⌝ }
+{
+    let valid = panel.valid() & registers.valid();
+    if valid {
+        let fits = (mem.len() == 65536) & (rom.len() == 1024);
+        if fits {
+            let whole = log.len() / 2;
+            if log.len() % 2 == 0 {
+                let total = lesser(limit, whole);
+                pairs(
+                    panel,
+                    registers,
+                    mem,
+                    rom,
+                    log,
+                    total,
+                    answers,
+                    skips,
+                    skipping,
+                )
+            } else {
+                none_taken(8, whole, registers)
+            }
+        } else {
+            none_taken(2, 0, registers)
+        }
+    } else {
+        none_taken(1, 0, registers)
+    }
+}
+
+// The ordinary run: it lists the pairs that are refused and goes on behind them.
+pub fn run(
+    panel: Panel,
+    registers: Registers,
+    mem: &mut [u8],
+    rom: &[u8],
+    log: &[u8],
+    limit: usize,
+    answers: &mut [u8],
+    skips: &mut [usize],
+) -> RanOn
+    ensures { λ r. ⌜ ranOnAll r (now (mem .exit)) (now (answers .exit)) (now (skips .exit)) ≡ runOf panel registers (now (mem .entry)) (now (rom .entry)) (now (log .entry)) limit (now (answers .entry)) (now (skips .entry)) ⌝ }
+{
+    enter(
+        panel, registers, mem, rom, log, limit, answers, skips, true,
+    )
+}
+
+// The run that stops at the first pair refused.
 pub fn run_stopping(
     panel: Panel,
     registers: Registers,
@@ -482,21 +588,9 @@ pub fn run_stopping(
 ) -> Ran
     ensures { λ r. ⌜ ranAll r (now (mem .exit)) (now (answers .exit)) ≡ stoppingOf panel registers (now (mem .entry)) (now (rom .entry)) (now (log .entry)) limit (now (answers .entry)) ⌝ }
 {
-    let valid = panel.valid() & registers.valid();
-    if valid {
-        let fits = (mem.len() == 65536) & (rom.len() == 1024);
-        if fits {
-            let whole = log.len() / 2;
-            if log.len() % 2 == 0 {
-                let total = lesser(limit, whole);
-                pairs(panel, registers, mem, rom, log, total, answers)
-            } else {
-                none_taken(8, whole, registers)
-            }
-        } else {
-            none_taken(2, 0, registers)
-        }
-    } else {
-        none_taken(1, 0, registers)
-    }
+    let mut none = [0usize; 0];
+    let gone = enter(
+        panel, registers, mem, rom, log, limit, answers, &mut none, false,
+    );
+    gone.ran
 }
