@@ -9,6 +9,7 @@ pub mod Runs
 pub mod Skips
 pub mod Splits
 pub mod Splitting
+pub mod SplittingOn
 pub mod Takes
 pub mod Tells
 pub mod Turns

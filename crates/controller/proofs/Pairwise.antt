@@ -43,24 +43,29 @@ step-proper p rom s q = go (eqb (q .kind) 2 || eqb (q .kind) 3) refl
     go true e = answering-proper s (step-answering p rom (s .machine) (q .kind) (q .byte) e)
     go false e = acting-proper s (step-acting p rom (s .machine) (q .kind) (q .byte) e)
 
--- what either run keeps: the machine sound, the list's length
+-- what either run keeps: the machine sound, the list's length, the entries inside it
 pub record SoundOn (n : ℕ) (s : Skipping Machine) : Type 0 where
   pub sound : Sounds (s .machine)
   pub long : length (s .skips) ≡ n
+  pub fits : 2 * s .listed ≤ length (s .skips)
 
 module _ (p : Panel) (rom : List ℕ) (on : Bool) (n : ℕ) where
   pub skip-sound : (s : Skipping Machine) → SoundOn n s → (q : Pair) → Leaves (SoundOn n) (skipStep on (stepOf p rom) s q)
   skip-sound s k q = go (stepOf p rom (s .machine) q) (step-sound p rom (s .machine) (k .sound) q)
     where
-      listing : (m : ℕ) (t u : Bool) → Leaves (SoundOn n) (cond u (cond t (done (record { machine = s .machine; skips = sets (s .skips) (2 * s .listed) (m ∷ s .place ∷ []); listed = s .listed + 1; place = s .place + 1 })) (refused 16)) (refused m))
-      listing m true true = record { sound = k .sound; long = length-sets (s .skips) (2 * s .listed) (m ∷ s .place ∷ []) ∙ k .long }
-      listing m false true = tt
-      listing m t false = tt
+      listing : (m : ℕ) (t u : Bool) → ltb (2 * s .listed + 1) (length (s .skips)) ≡ t
+          → Leaves (SoundOn n) (cond u (cond t (done (record { machine = s .machine; skips = sets (s .skips) (2 * s .listed) (m ∷ s .place ∷ []); listed = s .listed + 1; place = s .place + 1 })) (refused 16)) (refused m))
+      listing m true true e =
+          let h : 2 * s .listed + 1 < length (s .skips) = ltb-true (2 * s .listed + 1) (length (s .skips)) e in
+          let f : length (sets (s .skips) (2 * s .listed) (m ∷ s .place ∷ [])) ≡ length (s .skips) = length-sets (s .skips) (2 * s .listed) (m ∷ s .place ∷ []) in
+          record { sound = k .sound; long = f ∙ k .long; fits = omega (arith, h, f) }
+      listing m false true e = tt
+      listing m t false e = tt
 
       go : (o : Step Machine) → Leaves Sounds o → Leaves (SoundOn n) (skipBy on s o)
-      go (done m) l = record { sound = l; long = k .long }
-      go (answered m b) l = record { sound = l; long = k .long }
-      go (refused m) l = listing m (ltb (2 * s .listed + 1) (length (s .skips))) on
+      go (done m) l = record { sound = l; long = k .long; fits = k .fits }
+      go (answered m b) l = record { sound = l; long = k .long; fits = k .fits }
+      go (refused m) l = listing m (ltb (2 * s .listed + 1) (length (s .skips))) on refl
 
 -- before pair i of either run: the machine and the answers, the list and the entries in it
 pub record Running (p : Panel) (on : Bool) (rom log : List ℕ) (total : ℕ) (s₀ : Standing (Skipping Machine)) (s : Standing Machine) (skips : List ℕ) (listed i : ℕ) : Type 0 where
@@ -69,7 +74,7 @@ pub record Running (p : Panel) (on : Bool) (rom log : List ℕ) (total : ℕ) (s
 pub running : (p : Panel) (on : Bool) (rom log : List ℕ) (total : ℕ) (s : Standing Machine) (skips : List ℕ) → Sounds (s .machine)
     → Running p on rom log total (standingOn s skips 0 0) s skips 0 0
 running p on rom log total s skips k =
-    record { goes-on = going (skipStep on (stepOf p rom)) (SoundOn (length skips)) (skip-sound p rom on (length skips)) log total (standingOn s skips 0 0) (record { sound = k; long = refl }) }
+    record { goes-on = going (skipStep on (stepOf p rom)) (SoundOn (length skips)) (skip-sound p rom on (length skips)) log total (standingOn s skips 0 0) (record { sound = k; long = refl; fits = omega arith }) }
 
 -- what the code's turn and note come to: the larger machine's turn
 pub data Outcome (s : Standing (Skipping Machine)) : Turn (Skipping Machine) → TurnedAll → NotedAll → Type 0 where
@@ -129,6 +134,13 @@ outcome true s (refused (suc n)) f =
     listing true = takes
     listing false = ends
 outcome false s (refused (suc n)) f = ends
+
+pub skip-proper : (p : Panel) (rom : List ℕ) (on : Bool) (s : Standing (Skipping Machine)) (q : Pair) → Proper (turnOf s (skipStep on (stepOf p rom) (s .machine) q))
+skip-proper p rom on s q = go (outcome on s (stepOf p rom (s .machine .machine) q) (step-number p rom (s .machine .machine) (q .kind) (q .byte)))
+  where
+    go : {o : Turn (Skipping Machine)} {t : TurnedAll} {u : NotedAll} → Outcome s o t u → Proper o
+    go takes = goes
+    go ends = stops
 
 module _ {p : Panel} {on : Bool} {rom log : List ℕ} {total : ℕ} {s₀ : Standing (Skipping Machine)} {s : Standing Machine} {skips : List ℕ} {listed i : ℕ}
     (g : Running p on rom log total s₀ s skips listed i) where
@@ -206,6 +218,7 @@ module _ {p : Panel} {on : Bool} {rom log : List ℕ} {total : ℕ} {s₀ : Stan
           sound = record {
             sound = record { display = g .goes-on .sound .sound .display; bus = g .goes-on .sound .sound .bus; memory = ap length (k .holds) ∙ stored-length (s .machine .memory) _ _ ∙ g .goes-on .sound .sound .memory };
             long = g .goes-on .sound .long;
+            fits = g .goes-on .sound .fits;
           };
           room = g .goes-on .room;
           left = (λ t. runFrom steps (k .reaches t) (pairsFrom log (k .reaches t) total) (standingOn (standing (withBus (s .machine .registers) (withPointer (s .machine .registers .bus) (j t))) (k .holds t) (s .answers) (s .given)) skips listed (k .reaches t)))

@@ -12,8 +12,8 @@ use lib.Seq.{sets}
 use borrow.Author.Tests.{ltb-true, lt-ltb, le-ltb}
 use Rattle.ground.proofs.Stores.{set-behind}
 use Rattle.controller.specs.Access.{Pair, Step, done, answered, refused}
-use Rattle.controller.specs.Run.{Standing, went, halted, turnOf, whole, short, afterTurn, runFrom}
-use Rattle.controller.specs.Skip.{Skipping, passedBy, skipBy, skipStep, later}
+use Rattle.controller.specs.Run.{Standing, Turn, went, halted, turnOf, whole, short, Run, afterTurn, runFrom}
+use Rattle.controller.specs.Skip.{Skipping, passedBy, skipped, skipBy, skipStep, later}
 use Rattle.controller.proofs.Splits.{ended, not-whole, projectedStep, projected, projectedRun, run-projects}
 
 module _ {M : Type 0} (step : M → Pair → Step M) where
@@ -84,6 +84,37 @@ module _ {M : Type 0} (step : M → Pair → Step M) where
           by true h = after m (set (s .answers) (s .given) b) (s .given + 1) h later
           by false h = not-whole step h
       go (refused n) f later = not-whole step f
+
+  -- as many pairs on as taken
+  abbrev Counts : ℕ → ℕ → Run (Skipping M) → Type 0
+  Counts k place e = e .standing .machine .place + k ≡ e .taken + place
+
+  abbrev goneAfter : Bool → ℕ → List Pair → Standing (Skipping M) → Turn (Skipping M) → Run (Skipping M)
+  goneAfter on k qs s o = afterTurn o (λ x. runFrom (skipStep on step) (suc k) qs x) (λ n. record { standing = s; taken = k; end = short n })
+
+  -- the pair to come goes on with every pair taken
+  pub run-place : (on : Bool) (qs : List Pair) (k : ℕ) (s : Standing (Skipping M))
+      → Counts k (s .machine .place) (runFrom (skipStep on step) k qs s)
+  unfolding runFrom
+  run-place on [] k s = omega arith
+  run-place on (q ∷ qs) k s = go (step (s .machine .machine) q) (λ x e. let h = run-place on qs (suc k) x in omega (arith, h, e))
+    where
+      by : (t : Bool) (a b : Turn (Skipping M)) → Counts k (s .machine .place) (goneAfter on k qs s a) → Counts k (s .machine .place) (goneAfter on k qs s b) → Counts k (s .machine .place) (goneAfter on k qs s (cond t a b))
+      by true a b x y = x
+      by false a b x y = y
+
+      go : (o : Step M) → ((x : Standing (Skipping M)) → x .machine .place ≡ s .machine .place + 1 → Counts k (s .machine .place) (runFrom (skipStep on step) (suc k) qs x)) → Counts k (s .machine .place) (goneAfter on k qs s (turnOf s (skipBy on (s .machine) o)))
+      go (done m) f = f _ refl
+      go (answered m b) f = by (ltb (s .given) (length (s .answers))) _ _ (f (record { machine = passedBy (s .machine) m; answers = set (s .answers) (s .given) b; given = s .given + 1 }) refl) (omega arith)
+      go (refused n) f = listing on
+        where
+          listing : (u : Bool) → Counts k (s .machine .place) (goneAfter on k qs s (turnOf s (cond u (skipped (s .machine) n) (refused n))))
+          listing false = omega arith
+          listing true = room (ltb (2 * s .machine .listed + 1) (length (s .machine .skips)))
+            where
+              room : (t : Bool) → Counts k (s .machine .place) (goneAfter on k qs s (turnOf s (cond t (done (record { machine = s .machine .machine; skips = sets (s .machine .skips) (2 * s .machine .listed) (n ∷ s .machine .place ∷ []); listed = s .machine .listed + 1; place = s .machine .place + 1 })) (refused 16))))
+              room true = f _ refl
+              room false = omega arith
 
 pub later-length : (n j : ℕ) (l : List ℕ) → length (later n j l) ≡ length l
 unfolding later

@@ -65,15 +65,15 @@ module _ (p : Panel) (r : Registers) (mem rom log : List ℕ) (limit : ℕ) (ans
       go false b c i j k h = never 0 h
 
 -- a whole run, by its number
-whole-by-number : (e : Run Machine) → Ends (e .end) → endNumber (e .end) ≡ 0 → e ≡ ended (e .standing) (e .taken)
-whole-by-number e k z = go (e .end) k z
+pub whole-by-number : {M : Type 0} (e : Run M) → Ends (e .end) → endNumber (e .end) ≡ 0 → e ≡ ended (e .standing) (e .taken)
+whole-by-number {M} e k z = go (e .end) k z
   where
-    go : (x : End) → Ends x → endNumber x ≡ 0 → _≡_ {A = Run Machine} (record { standing = e .standing; taken = e .taken; end = x }) (ended (e .standing) (e .taken))
+    go : (x : End) → Ends x → endNumber x ≡ 0 → _≡_ {A = Run M} (record { standing = e .standing; taken = e .taken; end = x }) (ended (e .standing) (e .taken))
     go whole all h = refl
     go (short (suc n)) cut h = absurd (let y : ⊥ = omega arith in y)
 
 -- the reply of a run that went on from n pairs, behind other answers
-went-on : (n : ℕ) (front : List ℕ) (e : Run Machine) → Ends (e .end)
+pub went-on : (n : ℕ) (front : List ℕ) (e : Run Machine) → Ends (e .end)
     → ranOf (shifted n (behindRun front e)) ≡ continued n front (length front) (ranOf e)
 went-on n front e k = go (e .end) k
   where

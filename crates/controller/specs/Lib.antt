@@ -3,4 +3,5 @@ pub mod Access
 pub mod Run
 pub mod Split
 pub mod Skip
+pub mod SplitOn
 pub mod Ready

@@ -571,9 +571,7 @@ pub fn run(
 ) -> RanOn
     ensures { λ r. ⌜ ranOnAll r (now (mem .exit)) (now (answers .exit)) (now (skips .exit)) ≡ runOf panel registers (now (mem .entry)) (now (rom .entry)) (now (log .entry)) limit (now (answers .entry)) (now (skips .entry)) ⌝ }
 {
-    enter(
-        panel, registers, mem, rom, log, limit, answers, skips, true,
-    )
+    enter(panel, registers, mem, rom, log, limit, answers, skips, true)
 }
 
 // The run that stops at the first pair refused.
@@ -590,7 +588,15 @@ pub fn run_stopping(
 {
     let mut none = [0usize; 0];
     let gone = enter(
-        panel, registers, mem, rom, log, limit, answers, &mut none, false,
+        panel,
+        registers,
+        mem,
+        rom,
+        log,
+        limit,
+        answers,
+        &mut none,
+        false,
     );
     gone.ran
 }
