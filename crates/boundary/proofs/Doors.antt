@@ -11,7 +11,7 @@ use Rattle.ground.proofs.Tests.{both-left}
 use Rattle.state.specs.State.{validPanel, validRegisters, resetRegisters}
 use Rattle.boundary.specs.Types.{Panel, Registers, Entry, State, Refused}
 use Rattle.boundary.specs.Image.{readable, stateOf, bytesOf}
-use Rattle.boundary.specs.Door.{doorOf, closes, keptOf, countsOf}
+use Rattle.boundary.specs.Door.{doorOf, closes, keptOf, countsOf, countsOnOf}
 
 answerOf : List ℕ → Bool → Bool → Bool → Bool → Entry
 answerOf b panel fits stands lent = cond panel (cond fits (cond stands (cond lent (State (stateOf b)) (Refused 2)) (Refused 1)) (Refused 2)) (Refused 1)
@@ -110,3 +110,19 @@ module _ (n place taken answers : ℕ) (k : List ℕ) where
 
   pub counts-open : closes n ≡ false → length k ≡ 3 → set (set (set k 0 place) 1 taken) 2 answers ≡ countsOf n place taken answers k
   counts-open e h = three k place taken answers h ∙ sym (ap (λ (t : Bool). cond t k (place ∷ taken ∷ answers ∷ [])) e)
+
+-- and of an ordinary run
+four : (k : List ℕ) (a b c d : ℕ) → length k ≡ 4 → set (set (set (set k 0 a) 1 b) 2 c) 3 d ≡ a ∷ b ∷ c ∷ d ∷ []
+four [] a b c d h = absurd (omega arith)
+four (v ∷ []) a b c d h = absurd (omega arith)
+four (v ∷ (w ∷ [])) a b c d h = absurd (omega arith)
+four (v ∷ (w ∷ (x ∷ []))) a b c d h = absurd (omega arith)
+four (v ∷ (w ∷ (x ∷ (y ∷ [])))) a b c d h = refl
+four (v ∷ (w ∷ (x ∷ (y ∷ (z ∷ k))))) a b c d h = absurd (omega arith)
+
+module _ (n place taken answers skipped : ℕ) (k : List ℕ) where
+  pub counts-on-closed : closes n ≡ true → k ≡ countsOnOf n place taken answers skipped k
+  counts-on-closed e = sym (ap (λ (t : Bool). cond t k (place ∷ taken ∷ answers ∷ skipped ∷ [])) e)
+
+  pub counts-on-open : closes n ≡ false → length k ≡ 4 → set (set (set (set k 0 place) 1 taken) 2 answers) 3 skipped ≡ countsOnOf n place taken answers skipped k
+  counts-on-open e h = four k place taken answers skipped h ∙ sym (ap (λ (t : Bool). cond t k (place ∷ taken ∷ answers ∷ skipped ∷ [])) e)

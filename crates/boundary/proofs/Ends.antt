@@ -15,10 +15,11 @@ use Rattle.display.specs.Frame.{painted, paintOf}
 use Rattle.display.specs.Layers.{layersOf}
 use Rattle.controller.specs.Access.{Pair, replied, accessOf}
 use Rattle.controller.specs.Run.{ranAll, stoppingOf}
-use Rattle.boundary.specs.Types.{Panel, Registers, Acted, Ran, Reply, Entry, State, Refused}
+use Rattle.controller.specs.Skip.{ranOnAll, runOf}
+use Rattle.boundary.specs.Types.{Panel, Registers, Acted, Ran, RanOn, Reply, Entry, State, Refused}
 use Rattle.boundary.specs.Image.{bytesOf}
-use Rattle.boundary.specs.Door.{doorOf, keptOf, countsOf}
-use Rattle.boundary.specs.Exports.{AccessEnd, accessEnd, accessDone, accessBy, accessBytes, RunEnd, runEnd, runDone, runBy, runBytes, PaintEnd, paintEnd, paintDone, paintBy, paintBytes, layersWord, layersDone, layersBy, layersBytes, ResetEnd, resetEnd, resetBytes}
+use Rattle.boundary.specs.Door.{doorOf, keptOf, countsOf, countsOnOf}
+use Rattle.boundary.specs.Exports.{AccessEnd, accessEnd, accessDone, accessBy, accessBytes, RunEnd, runEnd, stoppingDone, stoppingBy, stoppingBytes, RunOnEnd, runOnEnd, runOnDone, runOnBy, runOnBytes, PaintEnd, paintEnd, paintDone, paintBy, paintBytes, layersWord, layersDone, layersBy, layersBytes, ResetEnd, resetEnd, resetBytes}
 
 module _ (p : Panel) (b mem rom : List ℕ) (q : Pair) {x : Entry} (h : x ≡ doorOf p true b) where
   access-by : {y : Entry} → x ≡ y → accessBy y p b mem rom q ≡ accessBytes p b mem rom q
@@ -33,17 +34,30 @@ module _ (p : Panel) (b mem rom : List ℕ) (q : Pair) {x : Entry} (h : x ≡ do
   access-done {m = m} e f k g = (λ i. accessEnd (g i) (k i) m) ∙ ap (accessDone b) f ∙ access-by e
 
 module _ (p : Panel) (b mem rom log : List ℕ) (limit : ℕ) (answers k : List ℕ) {x : Entry} (h : x ≡ doorOf p (eqb (length k) 3) b) where
-  run-by : {y : Entry} → x ≡ y → runBy y p b mem rom log limit answers k ≡ runBytes p b mem rom log limit answers k
-  unfolding runBytes
-  run-by e = ap (λ (y : Entry). runBy y p b mem rom log limit answers k) (sym e ∙ h)
+  stopping-by : {y : Entry} → x ≡ y → stoppingBy y p b mem rom log limit answers k ≡ stoppingBytes p b mem rom log limit answers k
+  unfolding stoppingBytes
+  stopping-by e = ap (λ (y : Entry). stoppingBy y p b mem rom log limit answers k) (sym e ∙ h)
 
-  pub run-refused : {n : ℕ} → x ≡ Refused n → runEnd n b mem answers k ≡ runBytes p b mem rom log limit answers k
+  pub stopping-refused : {n : ℕ} → x ≡ Refused n → runEnd n b mem answers k ≡ stoppingBytes p b mem rom log limit answers k
+  stopping-refused e = stopping-by e
+
+  pub stopping-done : {r : Registers} {a : Ran} {m c l s : List ℕ} → x ≡ State r → ranAll a m c ≡ stoppingOf p r mem rom log limit answers
+      → l ≡ keptOf (a .number) (a .registers) b → s ≡ countsOf (a .number) (a .place) (a .taken) (a .answers) k
+      → runEnd (a .number) l m c s ≡ stoppingBytes p b mem rom log limit answers k
+  stopping-done {a = a} {m = m} {c = c} e f g t = (λ i. runEnd (a .number) (g i) m c (t i)) ∙ ap (stoppingDone b k) f ∙ stopping-by e
+
+module _ (p : Panel) (b mem rom log : List ℕ) (limit : ℕ) (answers skips k : List ℕ) {x : Entry} (h : x ≡ doorOf p (eqb (length k) 4) b) where
+  run-by : {y : Entry} → x ≡ y → runOnBy y p b mem rom log limit answers skips k ≡ runOnBytes p b mem rom log limit answers skips k
+  unfolding runOnBytes
+  run-by e = ap (λ (y : Entry). runOnBy y p b mem rom log limit answers skips k) (sym e ∙ h)
+
+  pub run-refused : {n : ℕ} → x ≡ Refused n → runOnEnd n b mem answers skips k ≡ runOnBytes p b mem rom log limit answers skips k
   run-refused e = run-by e
 
-  pub run-done : {r : Registers} {a : Ran} {m c l s : List ℕ} → x ≡ State r → ranAll a m c ≡ stoppingOf p r mem rom log limit answers
-      → l ≡ keptOf (a .number) (a .registers) b → s ≡ countsOf (a .number) (a .place) (a .taken) (a .answers) k
-      → runEnd (a .number) l m c s ≡ runBytes p b mem rom log limit answers k
-  run-done {a = a} {m = m} {c = c} e f g t = (λ i. runEnd (a .number) (g i) m c (t i)) ∙ ap (runDone b k) f ∙ run-by e
+  pub run-done : {r : Registers} {a : RanOn} {m c d l s : List ℕ} → x ≡ State r → ranOnAll a m c d ≡ runOf p r mem rom log limit answers skips
+      → l ≡ keptOf (a .ran .number) (a .ran .registers) b → s ≡ countsOnOf (a .ran .number) (a .ran .place) (a .ran .taken) (a .ran .answers) (a .skipped) k
+      → runOnEnd (a .ran .number) l m c d s ≡ runOnBytes p b mem rom log limit answers skips k
+  run-done {a = a} {m = m} {c = c} {d = d} e f g t = (λ i. runOnEnd (a .ran .number) (g i) m c d (t i)) ∙ ap (runOnDone b k) f ∙ run-by e
 
 module _ (p : Panel) (b mem rom frame : List ℕ) {x : Entry} (h : x ≡ doorOf p true b) where
   paint-by : {y : Entry} → x ≡ y → paintBy y p mem rom frame ≡ paintBytes p b mem rom frame
@@ -87,12 +101,19 @@ access-settled p bytes mem rom q h k =
     let e = settled h k in
     (ap (λ (o : AccessEnd). o .result) e, ap (λ (o : AccessEnd). o .registers) e, ap (λ (o : AccessEnd). o .memory) e)
 
-pub run-settled : {v w : ℕ} {b c m n a d s t : List ℕ} (p : Panel) (bytes mem rom log : List ℕ) (limit : ℕ) (answers counts : List ℕ)
-    → runEnd v b m a s ≡ runBytes p bytes mem rom log limit answers counts → runEnd w c n d t ≡ runBytes p bytes mem rom log limit answers counts
+pub stopping-settled : {v w : ℕ} {b c m n a d s t : List ℕ} (p : Panel) (bytes mem rom log : List ℕ) (limit : ℕ) (answers counts : List ℕ)
+    → runEnd v b m a s ≡ stoppingBytes p bytes mem rom log limit answers counts → runEnd w c n d t ≡ stoppingBytes p bytes mem rom log limit answers counts
     → (v ≡ w) × (b ≡ c) × (m ≡ n) × (a ≡ d) × (s ≡ t)
-run-settled p bytes mem rom log limit answers counts h k =
+stopping-settled p bytes mem rom log limit answers counts h k =
     let e = settled h k in
     (ap (λ (o : RunEnd). o .number) e, ap (λ (o : RunEnd). o .registers) e, ap (λ (o : RunEnd). o .memory) e, ap (λ (o : RunEnd). o .answers) e, ap (λ (o : RunEnd). o .counts) e)
+
+pub run-settled : {v w : ℕ} {b c m n a d e f s t : List ℕ} (p : Panel) (bytes mem rom log : List ℕ) (limit : ℕ) (answers skips counts : List ℕ)
+    → runOnEnd v b m a e s ≡ runOnBytes p bytes mem rom log limit answers skips counts → runOnEnd w c n d f t ≡ runOnBytes p bytes mem rom log limit answers skips counts
+    → (v ≡ w) × (b ≡ c) × (m ≡ n) × (a ≡ d) × (e ≡ f) × (s ≡ t)
+run-settled p bytes mem rom log limit answers skips counts h k =
+    let e = settled h k in
+    (ap (λ (o : RunOnEnd). o .number) e, ap (λ (o : RunOnEnd). o .registers) e, ap (λ (o : RunOnEnd). o .memory) e, ap (λ (o : RunOnEnd). o .answers) e, ap (λ (o : RunOnEnd). o .skips) e, ap (λ (o : RunOnEnd). o .counts) e)
 
 pub paint-settled : {v w : ℕ} {f g : List ℕ} (p : Panel) (bytes mem rom frame : List ℕ)
     → paintEnd v f ≡ paintBytes p bytes mem rom frame → paintEnd w g ≡ paintBytes p bytes mem rom frame → (v ≡ w) × (f ≡ g)

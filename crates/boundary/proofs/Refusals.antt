@@ -3,7 +3,7 @@ use mathlib.Core.Path.{_≡_, refl, ap, sym, _∙_}
 use mathlib.Core.Bool.{Bool, true, false, cond, _&&_, _||_, false≢true}
 use mathlib.Core.List.{List, [], _∷_}
 use mathlib.Core.Logic.{_⊎_, inl, inr}
-use Prim.Native.Nat.{ℕ, suc, _%_, _<_}
+use Prim.Native.Nat.{ℕ, suc, _+_, _*_, _%_, _<_}
 use native.Mathlib.Omega.{arith}
 use lib.Dec.{ltb, leb, eqb}
 use lib.ListN.{length, getD, take}
@@ -16,10 +16,11 @@ use Rattle.controller.specs.Types.{Auto, Off, Write, Read, Decoded, Defined, Un
 use Rattle.controller.specs.Access.{Pair, Step, done, answered, refused, commandOf, dataWriteOf, dataReadOf, stepOf, Accessed, actedOf, accessOf}
 use Rattle.effects.specs.Machine.{Machine, machine}
 use Rattle.controller.specs.Run.{pairsOf, Standing, Turn, went, halted, turnOf, short, afterTurn, runFrom, endNumber, RanAll, stoppingOf}
+use Rattle.controller.specs.Skip.{Skipping, skipBy, skipStep, begunOn, RanOnAll, eitherRun, runOf}
 use Rattle.boundary.specs.Types.{Panel, Registers, Entry, State, Refused}
 use Rattle.boundary.specs.Image.{bytesOf}
 use Rattle.boundary.specs.Door.{doorOf, closes, keptOf}
-use Rattle.boundary.specs.Exports.{accessBy, accessBytes, RunEnd, runDone, runBy, runBytes, paintBy, paintBytes}
+use Rattle.boundary.specs.Exports.{accessBy, accessBytes, RunEnd, stoppingDone, stoppingBy, stoppingBytes, RunOnEnd, runOnDone, runOnBy, runOnBytes, paintBy, paintBytes}
 use Rattle.boundary.proofs.Doors.{entered-length, entered-readable, entered-state}
 use Rattle.boundary.proofs.Images.{bytes-back}
 
@@ -77,12 +78,12 @@ paint-untouched p b mem rom frame = go (doorOf p true b)
         (λ k. refl)
 
 -- no pair is refused by 1 or 2
-Late : Step Machine → Type 0
+Late : {M : Type 0} → Step M → Type 0
 Late (done s) = Unit {0}
 Late (answered s b) = Unit {0}
 Late (refused n) = closes n ≡ false
 
-LateTurn : Turn Machine → Type 0
+LateTurn : {M : Type 0} → Turn M → Type 0
 LateTurn (went s) = Unit {0}
 LateTurn (halted n) = closes n ≡ false
 
@@ -111,34 +112,42 @@ module _ (p : Panel) (rom : List ℕ) where
           cond-has Late (endsAuto k || isOff (s .registers .bus .auto))
           (cond-has Late (leb (neededOf k) (s .registers .bus .pending .count)) tt refl) refl
 
-  turn-late : (s : Standing Machine) (o : Step Machine) → Late o → LateTurn (turnOf s o)
+-- nor a run over any such step
+module _ {M : Type 0} where
+  turn-late : (s : Standing M) (o : Step M) → Late o → LateTurn (turnOf s o)
   unfolding Late LateTurn
   turn-late s (done m) k = tt
   turn-late s (answered m b) k = cond-has LateTurn (ltb (s .given) (length (s .answers))) tt refl
   turn-late s (refused n) k = k
 
-  run-late : (qs : List Pair) (k : ℕ) (s : Standing Machine) → closes (endNumber (runFrom (stepOf p rom) k qs s .end)) ≡ false
+  run-late : (step : M → Pair → Step M) → ((s : M) (q : Pair) → Late (step s q)) → (qs : List Pair) (k : ℕ) (s : Standing M) → closes (endNumber (runFrom step k qs s .end)) ≡ false
   unfolding runFrom LateTurn
-  run-late [] k s = refl
-  run-late (q ∷ qs) k s = go (turnOf s (stepOf p rom (s .machine) q)) (turn-late s (stepOf p rom (s .machine) q) (step-late (s .machine) q)) (run-late qs (suc k))
+  run-late step late [] k s = refl
+  run-late step late (q ∷ qs) k s = go (turnOf s (step (s .machine) q)) (turn-late s (step (s .machine) q) (late (s .machine) q)) (run-late step late qs (suc k))
     where
-      go : (o : Turn Machine) → LateTurn o → ((t : Standing Machine) → closes (endNumber (runFrom (stepOf p rom) (suc k) qs t .end)) ≡ false)
-          → closes (endNumber (afterTurn o (λ t. runFrom (stepOf p rom) (suc k) qs t) (λ n. record { standing = s; taken = k; end = short n }) .end)) ≡ false
+      go : (o : Turn M) → LateTurn o → ((t : Standing M) → closes (endNumber (runFrom step (suc k) qs t .end)) ≡ false)
+          → closes (endNumber (afterTurn o (λ t. runFrom step (suc k) qs t) (λ n. record { standing = s; taken = k; end = short n }) .end)) ≡ false
       go (went t) h rest = rest t
       go (halted n) h rest = h
+
+  skip-late : (s : Skipping M) (o : Step M) → Late o → Late (skipBy true s o)
+  unfolding Late
+  skip-late s (done m) k = tt
+  skip-late s (answered m b) k = tt
+  skip-late s (refused n) k = cond-has Late (ltb (2 * s .listed + 1) (length (s .skips))) tt refl
 
 -- 1 and 2 leave every buffer of a run
 module _ (p : Panel) (b mem rom log : List ℕ) (limit : ℕ) (answers k : List ℕ) where
   Stays : RanAll → Type 0
   Stays o = closes (o .ran .number) ≡ true → (o .memory ≡ mem) × (o .answers ≡ answers)
 
-  run-stays : (r : Registers) → Stays (stoppingOf p r mem rom log limit answers)
+  stopping-stays : (r : Registers) → Stays (stoppingOf p r mem rom log limit answers)
   unfolding stoppingOf Stays
-  run-stays r =
+  stopping-stays r =
       cond-has Stays (validPanel p && validRegisters r)
       (cond-has Stays (lentLengths mem rom)
       (cond-has Stays (eqb (length log % 2) 0)
-      (λ e. absurd (false≢true (sym (run-late p rom (take limit (pairsOf log)) 0 (record { machine = machine r mem; answers = answers; given = 0 })) ∙ e)))
+      (λ e. absurd (false≢true (sym (run-late (stepOf p rom) (step-late p rom) (take limit (pairsOf log)) 0 (record { machine = machine r mem; answers = answers; given = 0 })) ∙ e)))
       (λ e. (refl, refl)))
       (λ e. (refl, refl)))
       (λ e. (refl, refl))
@@ -149,11 +158,11 @@ module _ (p : Panel) (b mem rom log : List ℕ) (limit : ℕ) (answers k : List 
     pub answered : o .answers ≡ answers
     pub counts : o .counts ≡ k
 
-  pub run-untouched : closes (runBytes p b mem rom log limit answers k .number) ≡ true → RunStays (runBytes p b mem rom log limit answers k)
-  unfolding runBytes Stays
-  run-untouched = go (doorOf p (eqb (length k) 3) b)
+  pub stopping-untouched : closes (stoppingBytes p b mem rom log limit answers k .number) ≡ true → RunStays (stoppingBytes p b mem rom log limit answers k)
+  unfolding stoppingBytes Stays
+  stopping-untouched = go (doorOf p (eqb (length k) 3) b)
     where
-      of : (o : RanAll) → Stays o → closes (o .ran .number) ≡ true → RunStays (runDone b k o)
+      of : (o : RanAll) → Stays o → closes (o .ran .number) ≡ true → RunStays (stoppingDone b k o)
       of o s e =
           record {
             registers = ap (λ (t : Bool). cond t b (bytesOf (o .ran .registers))) e;
@@ -162,6 +171,47 @@ module _ (p : Panel) (b mem rom log : List ℕ) (limit : ℕ) (answers k : List 
             counts = ap (λ (t : Bool). cond t k (o .ran .place ∷ o .ran .taken ∷ o .ran .answers ∷ [])) e;
           }
 
-      go : (x : Entry) → closes (runBy x p b mem rom log limit answers k .number) ≡ true → RunStays (runBy x p b mem rom log limit answers k)
+      go : (x : Entry) → closes (stoppingBy x p b mem rom log limit answers k .number) ≡ true → RunStays (stoppingBy x p b mem rom log limit answers k)
       go (Refused n) e = record { registers = refl; memory = refl; answered = refl; counts = refl }
-      go (State r) e = of (stoppingOf p r mem rom log limit answers) (run-stays r) e
+      go (State r) e = of (stoppingOf p r mem rom log limit answers) (stopping-stays r) e
+
+-- and of an ordinary run
+module _ (p : Panel) (b mem rom log : List ℕ) (limit : ℕ) (answers skips k : List ℕ) where
+  StaysOn : RanOnAll → Type 0
+  StaysOn o = closes (o .all .ran .number) ≡ true → (o .all .memory ≡ mem) × (o .all .answers ≡ answers) × (o .skips ≡ skips)
+
+  run-stays : (r : Registers) → StaysOn (runOf p r mem rom log limit answers skips)
+  unfolding eitherRun StaysOn
+  run-stays r =
+      cond-has StaysOn (validPanel p && validRegisters r)
+      (cond-has StaysOn (lentLengths mem rom)
+      (cond-has StaysOn (eqb (length log % 2) 0)
+      (λ e. absurd (false≢true (sym (run-late (skipStep true (stepOf p rom)) (λ s q. skip-late s (stepOf p rom (s .machine) q) (step-late p rom (s .machine) q)) (take limit (pairsOf log)) 0 (begunOn r mem answers skips)) ∙ e)))
+      (λ e. (refl, refl, refl)))
+      (λ e. (refl, refl, refl)))
+      (λ e. (refl, refl, refl))
+
+  pub record RunOnStays (o : RunOnEnd) : Type 0 where
+    pub registers : o .registers ≡ b
+    pub memory : o .memory ≡ mem
+    pub answered : o .answers ≡ answers
+    pub listed : o .skips ≡ skips
+    pub counts : o .counts ≡ k
+
+  pub run-untouched : closes (runOnBytes p b mem rom log limit answers skips k .number) ≡ true → RunOnStays (runOnBytes p b mem rom log limit answers skips k)
+  unfolding runOnBytes StaysOn
+  run-untouched = go (doorOf p (eqb (length k) 4) b)
+    where
+      of : (o : RanOnAll) → StaysOn o → closes (o .all .ran .number) ≡ true → RunOnStays (runOnDone b k o)
+      of o s e =
+          record {
+            registers = ap (λ (t : Bool). cond t b (bytesOf (o .all .ran .registers))) e;
+            memory = s e .0;
+            answered = s e .1;
+            listed = s e .2;
+            counts = ap (λ (t : Bool). cond t k (o .all .ran .place ∷ o .all .ran .taken ∷ o .all .ran .answers ∷ o .skipped ∷ [])) e;
+          }
+
+      go : (x : Entry) → closes (runOnBy x p b mem rom log limit answers skips k .number) ≡ true → RunOnStays (runOnBy x p b mem rom log limit answers skips k)
+      go (Refused n) e = record { registers = refl; memory = refl; answered = refl; listed = refl; counts = refl }
+      go (State r) e = of (runOf p r mem rom log limit answers skips) (run-stays r) e

@@ -33,3 +33,6 @@ keptOf n r b = cond (closes n) b (bytesOf r)
 -- the counts buffer after: place, pairs taken, answers written
 abbrev pub countsOf : ℕ → ℕ → ℕ → ℕ → List ℕ → List ℕ
 countsOf n place taken answers k = cond (closes n) k (place ∷ taken ∷ answers ∷ [])
+
+abbrev pub countsOnOf : ℕ → ℕ → ℕ → ℕ → ℕ → List ℕ → List ℕ
+countsOnOf n place taken answers skipped k = cond (closes n) k (place ∷ taken ∷ answers ∷ skipped ∷ [])

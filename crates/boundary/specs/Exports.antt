@@ -11,9 +11,10 @@ use Rattle.display.specs.Frame.{Painted, paintOf}
 use Rattle.display.specs.Layers.{layersOf}
 use Rattle.controller.specs.Access.{Pair, Accessed, accessOf}
 use Rattle.controller.specs.Run.{RanAll, stoppingOf}
+use Rattle.controller.specs.Skip.{RanOnAll, runOf}
 use Rattle.boundary.specs.Types.{Panel, Entry, State, Refused}
 use Rattle.boundary.specs.Image.{bytesOf}
-use Rattle.boundary.specs.Door.{doorOf, keptOf, countsOf}
+use Rattle.boundary.specs.Door.{doorOf, keptOf, countsOf, countsOnOf}
 
 -- an access
 pub record AccessEnd : Type 0 where
@@ -36,7 +37,7 @@ accessBy (Refused n) p b mem rom q = accessEnd n b mem
 unfoldable pub accessBytes : Panel → List ℕ → List ℕ → List ℕ → Pair → AccessEnd
 accessBytes p b mem rom q = accessBy (doorOf p true b) p b mem rom q
 
--- a run
+-- a run that stops
 pub record RunEnd : Type 0 where
   pub number : ℕ
   pub registers : List ℕ
@@ -48,19 +49,46 @@ abbrev pub runEnd : ℕ → List ℕ → List ℕ → List ℕ → List ℕ → 
 runEnd n registers memory answers counts =
     record { number = n; registers = registers; memory = memory; answers = answers; counts = counts }
 
-abbrev pub runDone : List ℕ → List ℕ → RanAll → RunEnd
-runDone b k o =
+abbrev pub stoppingDone : List ℕ → List ℕ → RanAll → RunEnd
+stoppingDone b k o =
     runEnd (o .ran .number) (keptOf (o .ran .number) (o .ran .registers) b) (o .memory) (o .answers)
     (countsOf (o .ran .number) (o .ran .place) (o .ran .taken) (o .ran .answers) k)
 
-abbrev pub runBy : Entry → Panel → List ℕ → List ℕ → List ℕ → List ℕ → ℕ → List ℕ → List ℕ → RunEnd
-runBy (State r) p b mem rom log limit answers k = runDone b k (stoppingOf p r mem rom log limit answers)
-runBy (Refused n) p b mem rom log limit answers k = runEnd n b mem answers k
+abbrev pub stoppingBy : Entry → Panel → List ℕ → List ℕ → List ℕ → List ℕ → ℕ → List ℕ → List ℕ → RunEnd
+stoppingBy (State r) p b mem rom log limit answers k = stoppingDone b k (stoppingOf p r mem rom log limit answers)
+stoppingBy (Refused n) p b mem rom log limit answers k = runEnd n b mem answers k
 
 -- the counts are exactly three
-unfoldable pub runBytes : Panel → List ℕ → List ℕ → List ℕ → List ℕ → ℕ → List ℕ → List ℕ → RunEnd
-runBytes p b mem rom log limit answers k =
-    runBy (doorOf p (eqb (length k) 3) b) p b mem rom log limit answers k
+unfoldable pub stoppingBytes : Panel → List ℕ → List ℕ → List ℕ → List ℕ → ℕ → List ℕ → List ℕ → RunEnd
+stoppingBytes p b mem rom log limit answers k =
+    stoppingBy (doorOf p (eqb (length k) 3) b) p b mem rom log limit answers k
+
+-- the ordinary run (02, Req 09)
+pub record RunOnEnd : Type 0 where
+  pub number : ℕ
+  pub registers : List ℕ
+  pub memory : List ℕ
+  pub answers : List ℕ
+  pub skips : List ℕ
+  pub counts : List ℕ
+
+abbrev pub runOnEnd : ℕ → List ℕ → List ℕ → List ℕ → List ℕ → List ℕ → RunOnEnd
+runOnEnd n registers memory answers skips counts =
+    record { number = n; registers = registers; memory = memory; answers = answers; skips = skips; counts = counts }
+
+abbrev pub runOnDone : List ℕ → List ℕ → RanOnAll → RunOnEnd
+runOnDone b k o =
+    runOnEnd (o .all .ran .number) (keptOf (o .all .ran .number) (o .all .ran .registers) b) (o .all .memory) (o .all .answers) (o .skips)
+    (countsOnOf (o .all .ran .number) (o .all .ran .place) (o .all .ran .taken) (o .all .ran .answers) (o .skipped) k)
+
+abbrev pub runOnBy : Entry → Panel → List ℕ → List ℕ → List ℕ → List ℕ → ℕ → List ℕ → List ℕ → List ℕ → RunOnEnd
+runOnBy (State r) p b mem rom log limit answers skips k = runOnDone b k (runOf p r mem rom log limit answers skips)
+runOnBy (Refused n) p b mem rom log limit answers skips k = runOnEnd n b mem answers skips k
+
+-- the counts are exactly four
+unfoldable pub runOnBytes : Panel → List ℕ → List ℕ → List ℕ → List ℕ → ℕ → List ℕ → List ℕ → List ℕ → RunOnEnd
+runOnBytes p b mem rom log limit answers skips k =
+    runOnBy (doorOf p (eqb (length k) 4) b) p b mem rom log limit answers skips k
 
 -- a frame
 pub record PaintEnd : Type 0 where

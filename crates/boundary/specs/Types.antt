@@ -10,5 +10,6 @@ pub use Rattle.state.specs.declared.registers.Registers.{Registers}
 pub use Rattle.state.specs.declared.reply.Reply.{Reply}
 pub use Rattle.controller.specs.declared.access.Acted.{Acted}
 pub use Rattle.controller.specs.declared.run.Ran.{Ran}
+pub use Rattle.controller.specs.declared.run.RanOn.{RanOn}
 pub use Rattle.boundary.specs.declared.door.Entry.{Entry}
 pub use Rattle.boundary.specs.declared.door.Entry.the-variants.{State, Refused}

@@ -1,7 +1,7 @@
 // What each export does before the controller is asked, and after.
 ghost use mathlib.Core.Path.{_≡_};
 ghost use lib.ListN.{length};
-ghost use Rattle.boundary.specs.Door.{panelOf, doorOf, closes, keptOf, countsOf};
+ghost use Rattle.boundary.specs.Door.{panelOf, doorOf, closes, keptOf, countsOf, countsOnOf};
 use super::image::decode;
 use super::image::encode;
 use super::image::is_readable;
@@ -88,4 +88,25 @@ pub(crate) fn count(number: u8, place: usize, taken: usize, answers: usize, coun
     counts[0] = place;
     counts[1] = taken;
     counts[2] = answers;
+}
+
+// The same of an ordinary run, with the pairs listed.
+pub(crate) fn count_on(
+    number: u8,
+    place: usize,
+    taken: usize,
+    answers: usize,
+    skipped: usize,
+    counts: &mut [usize],
+)
+    requires { ⌜ length (now counts) ≡ 4 ⌝ }
+    ensures { λ _. ⌜ now (counts .exit) ≡ countsOnOf number place taken answers skipped (now (counts .entry)) ⌝ }
+{
+    if untouched(number) {
+        return;
+    }
+    counts[0] = place;
+    counts[1] = taken;
+    counts[2] = answers;
+    counts[3] = skipped;
 }

@@ -1,14 +1,16 @@
 // The functions that C calls: every input gets a reply.
 ghost use mathlib.Core.Path.{_≡_};
 ghost use Rattle.boundary.specs.Door.{panelOf};
-ghost use Rattle.boundary.specs.Exports.{accessEnd, accessBytes, runEnd, runBytes, paintEnd, paintBytes, layersWord, layersBytes, resetEnd, resetBytes};
+ghost use Rattle.boundary.specs.Exports.{accessEnd, accessBytes, runEnd, stoppingBytes, paintEnd, paintBytes, layersWord, layersBytes, resetEnd, resetBytes, runOnEnd, runOnBytes};
 use super::door::Entry;
 use super::door::count;
+use super::door::count_on;
 use super::door::enter;
 use super::door::keep;
 use super::door::marked;
 use super::image::encode;
 use controller::access::access;
+use controller::run::run;
 use controller::run::run_stopping;
 use display::frame::paint;
 use display::seen::layers;
@@ -42,7 +44,7 @@ pub extern "C" fn t6963c_access(
     }
 }
 
-// At most `limit` pairs of a log: the number. `counts` becomes place, pairs taken, answers written.
+// At most `limit` pairs of a log, refused ones skipped and listed: the number. `counts` becomes place, pairs taken, answers written, pairs listed.
 #[no_mangle]
 pub extern "C" fn t6963c_run(
     columns: usize,
@@ -55,9 +57,49 @@ pub extern "C" fn t6963c_run(
     log: &[u8],
     limit: usize,
     answers: &mut [u8],
+    skips: &mut [usize],
     counts: &mut [usize],
 ) -> u8
-    ensures { λ r. ⌜ runEnd r (now (registers .exit)) (now (memory .exit)) (now (answers .exit)) (now (counts .exit)) ≡ runBytes (panelOf columns lines width dual) (now (registers .entry)) (now (memory .entry)) (now (rom .entry)) (now (log .entry)) limit (now (answers .entry)) (now (counts .entry)) ⌝ }
+    ensures { λ r. ⌜ runOnEnd r (now (registers .exit)) (now (memory .exit)) (now (answers .exit)) (now (skips .exit)) (now (counts .exit)) ≡ runOnBytes (panelOf columns lines width dual) (now (registers .entry)) (now (memory .entry)) (now (rom .entry)) (now (log .entry)) limit (now (answers .entry)) (now (skips .entry)) (now (counts .entry)) ⌝ }
+{
+    let panel = marked(columns, lines, width, dual);
+    let counted = counts.len() == 4;
+    match enter(panel, counted, registers) {
+        Entry::State(state) => {
+            let gone = run(panel, state, memory, rom, log, limit, answers, skips);
+            let ran = gone.ran;
+            let after = ran.registers;
+            keep(ran.number, after, registers);
+            count_on(
+                ran.number,
+                ran.place,
+                ran.taken,
+                ran.answers,
+                gone.skipped,
+                counts,
+            );
+            ran.number
+        }
+        Entry::Refused(number) => number,
+    }
+}
+
+// At most `limit` pairs of a log, up to the first refused: the number. `counts` becomes place, pairs taken, answers written.
+#[no_mangle]
+pub extern "C" fn t6963c_run_stopping(
+    columns: usize,
+    lines: usize,
+    width: usize,
+    dual: u8,
+    registers: &mut [u8],
+    memory: &mut [u8],
+    rom: &[u8],
+    log: &[u8],
+    limit: usize,
+    answers: &mut [u8],
+    counts: &mut [usize],
+) -> u8
+    ensures { λ r. ⌜ runEnd r (now (registers .exit)) (now (memory .exit)) (now (answers .exit)) (now (counts .exit)) ≡ stoppingBytes (panelOf columns lines width dual) (now (registers .entry)) (now (memory .entry)) (now (rom .entry)) (now (log .entry)) limit (now (answers .entry)) (now (counts .entry)) ⌝ }
 {
     let panel = marked(columns, lines, width, dual);
     let counted = counts.len() == 3;

@@ -15,7 +15,7 @@ use Rattle.display.specs.Frame.{lentLengths}
 use Rattle.controller.specs.Types.{Panel, Registers, Ran, RanOn}
 use Rattle.controller.specs.Access.{Pair, stepOf}
 use Rattle.controller.specs.Run.{pairsOf, runFrom, RanAll, ranAll, ranOf, ranNone, stoppingOf}
-use Rattle.controller.specs.Skip.{skipStep, begunOn, RanOnAll, ranOnAll, ranOnOf, ranOnNone, runBy, runOf}
+use Rattle.controller.specs.Skip.{skipStep, begunOn, RanOnAll, ranOnAll, ranOnOf, ranOnNone, eitherRun, runOf}
 use Rattle.controller.specs.Ready.{standing}
 use Rattle.controller.proofs.Skips.{off-is}
 
@@ -42,8 +42,8 @@ module _ (on : Bool) (p : Panel) (r : Registers) (mem rom log : List ℕ) (limit
 
   entered : (v : Bool) → (a && b) ≡ v
       → cond v (cond (lentLengths mem rom) (cond (eqb (length log % 2) 0) (within (take limit (pairsOf log))) (ranOnNone 8 (length log / 2) r mem answers skips)) (ranOnNone 2 0 r mem answers skips)) (ranOnNone 1 0 r mem answers skips)
-      ≡ runBy on p r mem rom log limit answers skips
-  unfolding runBy
+      ≡ eitherRun on p r mem rom log limit answers skips
+  unfolding eitherRun
   entered v e =
       ap
       (λ (t : Bool). cond t
@@ -56,13 +56,13 @@ module _ (on : Bool) (p : Panel) (r : Registers) (mem rom log : List ℕ) (limit
   none h = ap (λ (x : RanOn). ranOnAll x mem answers skips) h
 
   pub run-1 : {x : RanOn} → (a && b) ≡ false → x ≡ record { ran = record { number = 1; place = 0; taken = 0; answers = 0; registers = r }; skipped = 0 }
-      → ranOnAll x mem answers skips ≡ runBy on p r mem rom log limit answers skips
+      → ranOnAll x mem answers skips ≡ eitherRun on p r mem rom log limit answers skips
   run-1 e h = none h ∙ entered false e
 
   module _ (e : (a && b) ≡ true) where
     lent : (v : Bool) → lentLengths mem rom ≡ v
         → cond v (cond (eqb (length log % 2) 0) (within (take limit (pairsOf log))) (ranOnNone 8 (length log / 2) r mem answers skips)) (ranOnNone 2 0 r mem answers skips)
-        ≡ runBy on p r mem rom log limit answers skips
+        ≡ eitherRun on p r mem rom log limit answers skips
     lent v l =
         ap
         (λ (t : Bool). cond t (cond (eqb (length log % 2) 0) (within (take limit (pairsOf log))) (ranOnNone 8 (length log / 2) r mem answers skips)) (ranOnNone 2 0 r mem answers skips))
@@ -70,23 +70,23 @@ module _ (on : Bool) (p : Panel) (r : Registers) (mem rom log : List ℕ) (limit
         ∙ entered true e
 
     pub run-2 : {x : RanOn} → lentLengths mem rom ≡ false → x ≡ record { ran = record { number = 2; place = 0; taken = 0; answers = 0; registers = r }; skipped = 0 }
-        → ranOnAll x mem answers skips ≡ runBy on p r mem rom log limit answers skips
+        → ranOnAll x mem answers skips ≡ eitherRun on p r mem rom log limit answers skips
     run-2 l h = none h ∙ lent false l
 
     module _ (l : lentLengths mem rom ≡ true) where
       even : (v : Bool) → eqb (length log % 2) 0 ≡ v
-          → cond v (within (take limit (pairsOf log))) (ranOnNone 8 (length log / 2) r mem answers skips) ≡ runBy on p r mem rom log limit answers skips
+          → cond v (within (take limit (pairsOf log))) (ranOnNone 8 (length log / 2) r mem answers skips) ≡ eitherRun on p r mem rom log limit answers skips
       even v f =
           ap (λ (t : Bool). cond t (within (take limit (pairsOf log))) (ranOnNone 8 (length log / 2) r mem answers skips)) (sym f)
           ∙ lent true l
 
       pub run-8 : {x : RanOn} → (length log % 2 ≡ 0 → ⊥) → x ≡ record { ran = record { number = 8; place = length log / 2; taken = 0; answers = 0; registers = r }; skipped = 0 }
-          → ranOnAll x mem answers skips ≡ runBy on p r mem rom log limit answers skips
+          → ranOnAll x mem answers skips ≡ eitherRun on p r mem rom log limit answers skips
       run-8 f h = none h ∙ even false (ne-eqb (length log % 2) 0 f)
 
       pub run-0 : {x : RanOn} {m c k : List ℕ} {n : ℕ} → length log % 2 ≡ 0 → n ≡ min limit (length log / 2)
           → ranOnAll x m c k ≡ within (take n (pairsOf log))
-          → ranOnAll x m c k ≡ runBy on p r mem rom log limit answers skips
+          → ranOnAll x m c k ≡ eitherRun on p r mem rom log limit answers skips
       run-0 f g h =
           h
           ∙ ap within
@@ -95,8 +95,8 @@ module _ (on : Bool) (p : Panel) (r : Registers) (mem rom log : List ℕ) (limit
 
 -- skipping off, the list is none of the run's business
 pub off-stops : (p : Panel) (r : Registers) (mem rom log : List ℕ) (limit : ℕ) (answers skips : List ℕ)
-    → runBy false p r mem rom log limit answers skips .all ≡ stoppingOf p r mem rom log limit answers
-unfolding runBy stoppingOf
+    → eitherRun false p r mem rom log limit answers skips .all ≡ stoppingOf p r mem rom log limit answers
+unfolding eitherRun stoppingOf
 off-stops p r mem rom log limit answers skips = go (validPanel p && validRegisters r) (lentLengths mem rom) (eqb (length log % 2) 0)
   where
     go : (v l e : Bool)

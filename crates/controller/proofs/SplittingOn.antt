@@ -15,7 +15,7 @@ use Rattle.controller.specs.Types.{Panel, Registers}
 use Rattle.controller.specs.Access.{Pair, Step, stepOf}
 use Rattle.effects.specs.Machine.{Machine, machine}
 use Rattle.controller.specs.Run.{pairsOf, Standing, Run, runFrom, endNumber, RanAll, ranOf, stoppingOf}
-use Rattle.controller.specs.Skip.{Skipping, skipStep, begunOn, RanOnAll, ranOnOf, ranOnNone, runBy, runOf, later}
+use Rattle.controller.specs.Skip.{Skipping, skipStep, begunOn, RanOnAll, ranOnOf, ranOnNone, eitherRun, runOf, later}
 use Rattle.controller.specs.Split.{continued}
 use Rattle.controller.specs.SplitOn.{continuedOn, secondRunOn, SplitOn, Agree}
 use Rattle.controller.specs.Ready.{standing}
@@ -32,7 +32,7 @@ module _ (p : Panel) (r : Registers) (mem rom log : List ℕ) (limit : ℕ) (ans
   ran-on = ranOnOf (runFrom (skipStep true (stepOf p rom)) 0 (take limit (pairsOf log)) (begunOn r mem answers skips))
 
   pub inside-on : (validPanel p && validRegisters r) ≡ true → lentLengths mem rom ≡ true → length log % 2 ≡ 0 → runOf p r mem rom log limit answers skips ≡ ran-on
-  unfolding runBy
+  unfolding eitherRun
   inside-on v l e =
       λ i. cond (v i)
       (cond (l i)
@@ -42,7 +42,7 @@ module _ (p : Panel) (r : Registers) (mem rom log : List ℕ) (limit : ℕ) (ans
 
   pub door-on : runOf p r mem rom log limit answers skips .all .ran .number ≡ 0
       → ((validPanel p && validRegisters r) ≡ true) × (lentLengths mem rom ≡ true) × (length log % 2 ≡ 0)
-  unfolding runBy
+  unfolding eitherRun
   door-on z = go (validPanel p && validRegisters r) (lentLengths mem rom) (eqb (length log % 2) 0) refl refl refl z
     where
       never : {A : Type 0} (n : ℕ) → suc n ≡ 0 → A

@@ -69,8 +69,8 @@ abbrev pub ranOnNone : ℕ → ℕ → Registers → List ℕ → List ℕ → L
 ranOnNone n place r mem answers skips = record { all = ranNone n place r mem answers; skipped = 0; skips = skips }
 
 -- 1, 2 and 8 as document 01's run; then at most limit pairs
-unfoldable pub runBy : Bool → Panel → Registers → List ℕ → List ℕ → List ℕ → ℕ → List ℕ → List ℕ → RanOnAll
-runBy on p r mem rom log limit answers skips =
+unfoldable pub eitherRun : Bool → Panel → Registers → List ℕ → List ℕ → List ℕ → ℕ → List ℕ → List ℕ → RanOnAll
+eitherRun on p r mem rom log limit answers skips =
     cond (validPanel p && validRegisters r)
     (cond (lentLengths mem rom)
     (cond (eqb (length log % 2) 0)
@@ -81,7 +81,7 @@ runBy on p r mem rom log limit answers skips =
 
 -- the ordinary run skips what is refused
 abbrev pub runOf : Panel → Registers → List ℕ → List ℕ → List ℕ → ℕ → List ℕ → List ℕ → RanOnAll
-runOf = runBy true
+runOf = eitherRun true
 
 -- the first entries of a list, their places n later
 unfoldable pub later : ℕ → ℕ → List ℕ → List ℕ

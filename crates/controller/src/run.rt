@@ -7,7 +7,7 @@ ghost use lib.ListN.{length, take};
 ghost use Rattle.effects.specs.Machine.{machine};
 ghost use Rattle.controller.specs.Access.{stepOf};
 ghost use Rattle.controller.specs.Run.{turnOf, runFrom, ranAll, stoppingOf, pairsOf};
-ghost use Rattle.controller.specs.Skip.{skipStep, begunOn, ranOnAll, ranOnOf, runBy, runOf};
+ghost use Rattle.controller.specs.Skip.{skipStep, begunOn, ranOnAll, ranOnOf, eitherRun, runOf};
 ghost use Rattle.controller.specs.Ready.{Runs, Tells, Draws, Blocked, standing, turnedAll, turnedOf, takenOf, answeredAll, answeredOf, notedAll, notedOf};
 use crate::access::Acted;
 use crate::access::step;
@@ -527,7 +527,7 @@ fn enter(
     skips: &mut [usize],
     skipping: bool,
 ) -> RanOn
-    ensures { λ r. ⌜ ranOnAll r (now (mem .exit)) (now (answers .exit)) (now (skips .exit)) ≡ runBy skipping panel registers (now (mem .entry)) (now (rom .entry)) (now (log .entry)) limit (now (answers .entry)) (now (skips .entry)) ⌝ }
+    ensures { λ r. ⌜ ranOnAll r (now (mem .exit)) (now (answers .exit)) (now (skips .exit)) ≡ eitherRun skipping panel registers (now (mem .entry)) (now (rom .entry)) (now (log .entry)) limit (now (answers .entry)) (now (skips .entry)) ⌝ }
 {
     let valid = panel.valid() & registers.valid();
     if valid {

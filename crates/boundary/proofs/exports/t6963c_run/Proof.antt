@@ -4,7 +4,7 @@ use lib.ListN.{length}
 use borrow.Author.Tests.{eqb-true}
 use mathlib.Core.Path.{ap, _∙_}
 use Rattle.boundary.specs.Types.{Panel}
-use Rattle.boundary.specs.Exports.{runBytes}
+use Rattle.boundary.specs.Exports.{runOnBytes}
 use Rattle.boundary.proofs.Doors.{entered-length, entered-lent}
 use Rattle.boundary.proofs.Ends.{run-refused, run-done}
 use borrow.Author.Needs.{needs}
@@ -20,18 +20,18 @@ enter-requires c κs = search needs
 enum-known-state : tie.Need-enum-known-state
 enum-known-state c = search needs
 
-run-stopping-requires : tie.Need-run-stopping-requires
-run-stopping-requires c κs = search needs
+run-requires : tie.Need-run-requires
+run-requires c κs = search needs
 
 keep-requires : tie.Need-keep-requires
 keep-requires c κs =
-    let s = c .before .before .before .before .before .before .before .before .before .before .before .before .before .before .before .before .before .before .before .before .before .args in
-    entered-length (c .before .before .before .before .before .before .before .before .before .before .before .before .before .before .marked .result) (eqb (length (s .counts .now)) 3) (s .registers .now) (c .before .before .before .before .before .before .before .before .before .before .before .before .enter .ensures) (c .before .before .before .before .before .before .before .before .before .before .state .given .1)
+    let s = c .before .before .before .before .before .before .before .before .before .before .before .before .before .before .before .before .before .before .before .before .before .before .before .before .before .before .args in
+    entered-length (c .before .before .before .before .before .before .before .before .before .before .before .before .before .before .before .before .before .before .marked .result) (eqb (length (s .counts .now)) 4) (s .registers .now) (c .before .before .before .before .before .before .before .before .before .before .before .before .before .before .before .before .enter .ensures) (c .before .before .before .before .before .before .before .before .before .before .before .before .before .before .state .given .1)
 
-count-requires : tie.Need-count-requires
-count-requires c κs =
-    let s = c .before .before .before .before .before .before .before .before .before .before .before .before .before .before .before .before .before .before .before .before .before .before .before .before .before .args in
-    eqb-true (length (s .counts .now)) 3 (entered-lent (c .before .before .before .before .before .before .before .before .before .before .before .before .before .before .before .before .before .before .marked .result) (eqb (length (s .counts .now)) 3) (s .registers .now) (c .before .before .before .before .before .before .before .before .before .before .before .before .before .before .before .before .enter .ensures) (c .before .before .before .before .before .before .before .before .before .before .before .before .before .before .state .given .1))
+count-on-requires : tie.Need-count-on-requires
+count-on-requires c κs =
+    let s = c .before .before .before .before .before .before .before .before .before .before .before .before .before .before .before .before .before .before .before .before .before .before .before .before .before .before .before .before .before .before .args in
+    eqb-true (length (s .counts .now)) 4 (entered-lent (c .before .before .before .before .before .before .before .before .before .before .before .before .before .before .before .before .before .before .before .before .before .before .marked .result) (eqb (length (s .counts .now)) 4) (s .registers .now) (c .before .before .before .before .before .before .before .before .before .before .before .before .before .before .before .before .before .before .before .before .enter .ensures) (c .before .before .before .before .before .before .before .before .before .before .before .before .before .before .before .before .before .before .state .given .1))
 
 enum-known-number : tie.Need-enum-known-number
 enum-known-number c = search needs
@@ -48,20 +48,23 @@ same-length-3 c = search needs
 same-length-4 : tie.Need-same-length-4
 same-length-4 c = search needs
 
-returns : tie.Need-returns
-returns c =
-    let s = c .before .before .before .before .before .before .before .before .before .before .before .before .before .before .before .before .before .before .before .before .before .before .before .before .before .before .before .before .args in
-    run-done (c .before .before .before .before .before .before .before .before .before .before .before .before .before .before .before .before .before .before .before .before .before .marked .result) (s .registers .now) (s .memory .now) (s .rom .now) (s .log .now) (s .limit) (s .answers .now) (s .counts .now) (c .before .before .before .before .before .before .before .before .before .before .before .before .before .before .before .before .before .before .before .enter .ensures) (c .before .before .before .before .before .before .before .before .before .before .before .before .before .before .before .before .before .state .given .1) (c .before .before .before .before .before .before .before .before .before .before .before .before .before .run-stopping .ensures) (c .before .before .before .before .before .before .keep .ensures) (c .before .before .count .ensures)
-    ∙ ap (λ (p : Panel). runBytes p (s .registers .now) (s .memory .now) (s .rom .now) (s .log .now) (s .limit) (s .answers .now) (s .counts .now)) (c .before .before .before .before .before .before .before .before .before .before .before .before .before .before .before .before .before .before .before .before .before .marked .ensures)
-
 same-length-5 : tie.Need-same-length-5
 same-length-5 c = search needs
 
+returns : tie.Need-returns
+returns c =
+    let s = c .before .before .before .before .before .before .before .before .before .before .before .before .before .before .before .before .before .before .before .before .before .before .before .before .before .before .before .before .before .before .before .before .before .args in
+    run-done (c .before .before .before .before .before .before .before .before .before .before .before .before .before .before .before .before .before .before .before .before .before .before .before .before .before .marked .result) (s .registers .now) (s .memory .now) (s .rom .now) (s .log .now) (s .limit) (s .answers .now) (s .skips .now) (s .counts .now) (c .before .before .before .before .before .before .before .before .before .before .before .before .before .before .before .before .before .before .before .before .before .before .before .enter .ensures) (c .before .before .before .before .before .before .before .before .before .before .before .before .before .before .before .before .before .before .before .before .before .state .given .1) (c .before .before .before .before .before .before .before .before .before .before .before .before .before .before .before .before .run .ensures) (c .before .before .before .before .before .before .keep .ensures) (c .before .before .count-on .ensures)
+    ∙ ap (λ (p : Panel). runOnBytes p (s .registers .now) (s .memory .now) (s .rom .now) (s .log .now) (s .limit) (s .answers .now) (s .skips .now) (s .counts .now)) (c .before .before .before .before .before .before .before .before .before .before .before .before .before .before .before .before .before .before .before .before .before .before .before .before .before .marked .ensures)
+
+same-length-6 : tie.Need-same-length-6
+same-length-6 c = search needs
+
 returns-2 : tie.Need-returns-2
 returns-2 c =
-    let s = c .before .before .before .before .before .before .before .before .before .before .before .before .args in
-    run-refused (c .before .before .before .before .before .marked .result) (s .registers .now) (s .memory .now) (s .rom .now) (s .log .now) (s .limit) (s .answers .now) (s .counts .now) (c .before .before .before .enter .ensures) (c .before .number .given .1)
-    ∙ ap (λ (p : Panel). runBytes p (s .registers .now) (s .memory .now) (s .rom .now) (s .log .now) (s .limit) (s .answers .now) (s .counts .now)) (c .before .before .before .before .before .marked .ensures)
+    let s = c .before .before .before .before .before .before .before .before .before .before .before .before .before .args in
+    run-refused (c .before .before .before .before .before .marked .result) (s .registers .now) (s .memory .now) (s .rom .now) (s .log .now) (s .limit) (s .answers .now) (s .skips .now) (s .counts .now) (c .before .before .before .enter .ensures) (c .before .number .given .1)
+    ∙ ap (λ (p : Panel). runOnBytes p (s .registers .now) (s .memory .now) (s .rom .now) (s .log .now) (s .limit) (s .answers .now) (s .skips .now) (s .counts .now)) (c .before .before .before .before .before .marked .ensures)
 
 pub t6963c-run-spec : {M : Type 1} → statement M
 t6963c-run-spec =
@@ -70,14 +73,15 @@ t6963c-run-spec =
     marked-requires
     enter-requires
     enum-known-state
-    run-stopping-requires
+    run-requires
     keep-requires
-    count-requires
+    count-on-requires
     enum-known-number
     same-length
     same-length-2
     same-length-3
     same-length-4
-    returns
     same-length-5
+    returns
+    same-length-6
     returns-2)
