@@ -13,6 +13,8 @@ use Rattle.ground.proofs.Tests.{both}
 use Rattle.state.specs.declared.panel.Panel.{Panel}
 use Rattle.state.specs.declared.registers.Registers.{Registers}
 use Rattle.state.specs.State.{validPanel, validRegisters}
+use Rattle.controller.specs.Skip.{runOf}
+use Rattle.controller.proofs.SplittingOn.{agree}
 use Rattle.controller.specs.Run.{logOf, RanAll, ranAll, stoppingOf}
 use Rattle.controller.proofs.Logs.{log-length, run-takes, takes-valid}
 use Rattle.book.specs.Operation.{Operation}
@@ -23,7 +25,7 @@ use Rattle.writer.specs.Written.{Wrote, wrote, writeOf}
 use Rattle.writer.proofs.Lengths.{stream-length}
 use Rattle.writer.proofs.Answers.{write-fits}
 use Rattle.picture.specs.Picture.{Picture, pictureOf}
-use Rattle.rehearsal.specs.Demand3.{inAreas, holding, Shows, Demand3}
+use Rattle.rehearsal.specs.Demand3.{inAreas, holding, Shows, ShowsOn, Demand3}
 use Rattle.rehearsal.proofs.Areas.{laid, stored-over}
 use Rattle.rehearsal.proofs.Simulated.{displayFor, machineFor, Shape}
 use Rattle.rehearsal.proofs.Openings.{firstGap, secondGap, found, found-laid, found-shape, Drawn, stream-draws}
@@ -152,10 +154,19 @@ module _ (p : Panel) (v : validPanel p ≡ true) (book : List ℕ) (bytes : (i :
       ap (λ (e : RanAll). e .ran .registers) (over-room buffer (countOf p os) (omega arith) room fits)
       ∙ sym (ap (λ (e : RanAll). e .ran .registers) (over-stream [] (countOf p os) (omega arith)))
 
+-- where a run shows the picture, so does the ordinary one
+shows-on : (p : Panel) (os : List Operation) (r : Registers) (mem rom log answers skips : List ℕ) (limit : ℕ)
+    → Shows p os r mem rom answers (stoppingOf p r mem rom log limit answers) → ShowsOn p os r mem rom answers skips (runOf p r mem rom log limit answers skips)
+shows-on p os r mem rom log answers skips limit h =
+    subst (ShowsOn p os r mem rom answers skips) (sym (agree p r mem rom log limit answers skips (h .number))) (record { shows = h; skipped = refl; skips = refl })
+
 pub demand-3 : Demand3
-demand-3 p book number os room r mem rom answers limit bytes v whole fits valid size characters few =
-    let e : writeOf p book number room ≡ wrote 0 0 (countOf p os) (sets room 0 (logOf (streamOf p os))) = write-fits p book number room v whole fits in (
+demand-3 p book number os room r mem rom answers skips limit bytes v whole fits valid size characters few =
+    let e : writeOf p book number room ≡ wrote 0 0 (countOf p os) (sets room 0 (logOf (streamOf p os))) = write-fits p book number room v whole fits in
+    let shown =
+        subst (λ (o : Wrote). Shows p os r mem rom answers (stoppingOf p r mem rom (take (2 * countOf p os) (o .room)) limit answers)) (sym e)
+        (bits p v book bytes number whole r mem rom valid size characters answers limit few room fits) in (
       ap (λ (o : Wrote). o .written) e,
-      subst (λ (o : Wrote). Shows p os r mem rom answers (stoppingOf p r mem rom (take (2 * countOf p os) (o .room)) limit answers)) (sym e)
-          (bits p v book bytes number whole r mem rom valid size characters answers limit few room fits),
+      shown,
+      shows-on p os r mem rom (take (2 * countOf p os) (writeOf p book number room .room)) answers skips limit shown,
     )

@@ -12,6 +12,7 @@ use Rattle.state.specs.State.{validPanel, validRegisters}
 use Rattle.display.specs.Frame.{frameOf}
 use Rattle.effects.specs.Effect.{withPhase}
 use Rattle.controller.specs.Run.{RanAll, stoppingOf}
+use Rattle.controller.specs.Skip.{RanOnAll, runOf}
 use Rattle.book.specs.Operation.{Operation}
 use Rattle.book.specs.Screen.{screen, screenOf}
 use Rattle.writer.specs.Homes.{graphicHome, textHome, glyphHome}
@@ -45,12 +46,18 @@ pub record Shows (p : Panel) (os : List Operation) (r : Registers) (mem rom buff
   pub none : e .ran .answers ≡ 0
   pub answers : e .answers ≡ buffer
 
+-- and of the ordinary run over it (02, Req 09): the same, with nothing listed
+pub record ShowsOn (p : Panel) (os : List Operation) (r : Registers) (mem rom buffer list : List ℕ) (e : RanOnAll) : Type 0 where
+  pub shows : Shows p os r mem rom buffer (e .all)
+  pub skipped : e .skipped ≡ 0
+  pub skips : e .skips ≡ list
+
 -- any well-formed screen, valid panel and enough room, from every valid registers, memory of 65,536 bytes and ROM of 1,024:
--- the writer accepts, and the run over what it wrote shows the picture
+-- the writer accepts, and either run over what it wrote shows the picture
 abbrev pub Demand3 : Type 0
 Demand3 =
     (p : Panel) (book : List ℕ) (number : ℕ) (os : List Operation) (room : List ℕ)
-    (r : Registers) (mem rom answers : List ℕ) (limit : ℕ)
+    (r : Registers) (mem rom answers skips : List ℕ) (limit : ℕ)
     → ((i : ℕ) → getD book i 0 < 256)
     → validPanel p ≡ true
     → screenOf p book number ≡ screen os
@@ -61,3 +68,4 @@ Demand3 =
     → countOf p os ≤ limit
     → (writeOf p book number room .written ≡ record { number = 0; place = 0; pairs = countOf p os })
     × Shows p os r mem rom answers (stoppingOf p r mem rom (take (2 * countOf p os) (writeOf p book number room .room)) limit answers)
+    × ShowsOn p os r mem rom answers skips (runOf p r mem rom (take (2 * countOf p os) (writeOf p book number room .room)) limit answers skips)
