@@ -11,9 +11,12 @@ use Rattle.state.specs.declared.panel.Panel.{Panel}
 use Rattle.state.specs.declared.registers.Registers.{Registers}
 use Rattle.state.specs.State.{validPanel, validRegisters}
 use Rattle.controller.specs.declared.run.Ran.{Ran}
+use Rattle.controller.specs.declared.run.RanOn.{RanOn}
 use Rattle.controller.specs.Run.{ranAll, stoppingOf}
+use Rattle.controller.specs.Skip.{ranOnAll, runOf}
 use Rattle.playback.specs.declared.play.Played.{Played}
-use Rattle.playback.specs.Play.{countedOn, PlayedAll, playedAll, partOf, playOf, closedOf}
+use Rattle.playback.specs.declared.play.PlayedOn.{PlayedOn}
+use Rattle.playback.specs.Play.{countedOn, PlayedAll, playedAll, partOf, playOf, PlayedOnAll, playedOnAll, partOnOf, playOnOf, closedOf}
 
 -- counted on, by the part's number
 module _ (so x : Ran) {taken answers : ℕ} (t : taken ≡ (so .taken + x .taken) % 2 ^ 64) (a : answers ≡ (so .answers + x .answers) % 2 ^ 64) where
@@ -37,6 +40,31 @@ module _ (so x : Ran) {taken answers : ℕ} (t : taken ≡ (so .taken + x .taken
         answers = a i;
         registers = x .registers;
       }
+
+module _ (p : Panel) (so : Ran) (mem rom part answers skips : List ℕ) where
+  pub on-refused : (so .number ≡ 0 → ⊥) → playedOnAll (record { ran = so; given = 0; skipped = 0 }) mem answers skips ≡ playOnOf p so mem rom part answers skips
+  unfolding playOnOf
+  on-refused nz =
+      λ i. cond (sym (ne-eqb (so .number) 0 nz) i)
+      (partOnOf so (runOf p (so .registers) mem rom part (length part / 2) answers skips))
+      (playedOnAll (record { ran = so; given = 0; skipped = 0 }) mem answers skips)
+
+  pub on-played : so .number ≡ 0 → {x : RanOn} {next : Ran} {m b l : List ℕ} → ranOnAll x m b l ≡ runOf p (so .registers) mem rom part (length part / 2) answers skips
+      → next ≡ countedOn so (x .ran) → playedOnAll (record { ran = next; given = x .ran .answers; skipped = x .skipped }) m b l ≡ playOnOf p so mem rom part answers skips
+  unfolding playOnOf
+  on-played z {x} {m = m} {b} {l} h n =
+      (λ i. playedOnAll (record { ran = n i; given = x .ran .answers; skipped = x .skipped }) m b l)
+      ∙ ap (partOnOf so) h
+      ∙ (λ i. cond (sym (eq-eqb (so .number) 0 z) i)
+      (partOnOf so (runOf p (so .registers) mem rom part (length part / 2) answers skips))
+      (playedOnAll (record { ran = so; given = 0; skipped = 0 }) mem answers skips))
+
+  -- two replies that meet the promise are equal
+  pub play-on-settled : {x y : PlayedOn} {m n b c l k : List ℕ} → playedOnAll x m b l ≡ playOnOf p so mem rom part answers skips
+      → playedOnAll y n c k ≡ playOnOf p so mem rom part answers skips → (x ≡ y) × (m ≡ n) × (b ≡ c) × (l ≡ k)
+  play-on-settled h k =
+      let e = settled h k in
+      (ap (λ (o : PlayedOnAll). o .played) e, ap (λ (o : PlayedOnAll). o .memory) e, ap (λ (o : PlayedOnAll). o .answers) e, ap (λ (o : PlayedOnAll). o .skips) e)
 
 module _ (p : Panel) (so : Ran) (mem rom part answers : List ℕ) where
   pub play-refused : (so .number ≡ 0 → ⊥) → playedAll (record { ran = so; given = 0 }) mem answers ≡ playOf p so mem rom part answers

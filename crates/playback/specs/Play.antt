@@ -9,7 +9,9 @@ use Rattle.state.specs.declared.registers.Registers.{Registers}
 use Rattle.state.specs.State.{validPanel, validRegisters}
 use Rattle.controller.specs.declared.run.Ran.{Ran}
 use Rattle.controller.specs.Run.{RanAll, stoppingOf}
+use Rattle.controller.specs.Skip.{RanOnAll, runOf}
 use Rattle.playback.specs.declared.play.Played.{Played}
+use Rattle.playback.specs.declared.play.PlayedOn.{PlayedOn}
 
 -- nothing played yet
 abbrev pub begunOf : Registers → Ran
@@ -45,6 +47,27 @@ playOf p so mem rom part answers =
     cond (eqb (so .number) 0)
     (partOf so (stoppingOf p (so .registers) mem rom part (length part / 2) answers))
     (playedAll (record { ran = so; given = 0 }) mem answers)
+
+-- a reply, the display memory, the part's answer buffer and its list then
+pub record PlayedOnAll : Type 0 where
+  pub played : PlayedOn
+  pub memory : List ℕ
+  pub answers : List ℕ
+  pub skips : List ℕ
+
+abbrev pub playedOnAll : PlayedOn → List ℕ → List ℕ → List ℕ → PlayedOnAll
+playedOnAll played memory answers skips = record { played = played; memory = memory; answers = answers; skips = skips }
+
+abbrev pub partOnOf : Ran → RanOnAll → PlayedOnAll
+partOnOf so x =
+    playedOnAll (record { ran = countedOn so (x .all .ran); given = x .all .ran .answers; skipped = x .skipped }) (x .all .memory) (x .all .answers) (x .skips)
+
+-- the part by the ordinary run (02, Req 09)
+unfoldable pub playOnOf : Panel → Ran → List ℕ → List ℕ → List ℕ → List ℕ → List ℕ → PlayedOnAll
+playOnOf p so mem rom part answers skips =
+    cond (eqb (so .number) 0)
+    (partOnOf so (runOf p (so .registers) mem rom part (length part / 2) answers skips))
+    (playedOnAll (record { ran = so; given = 0; skipped = 0 }) mem answers skips)
 
 -- the whole log's length is judged before any pair, behind panel, state and the lengths lent
 abbrev pub closedOf : Panel → Registers → ℕ → ℕ → ℕ → Ran → Ran

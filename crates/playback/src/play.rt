@@ -1,7 +1,8 @@
 // A run that goes on from a state, its counts from the whole log's start.
 ghost use mathlib.Core.Path.{_≡_};
-ghost use Rattle.playback.specs.Play.{begunOf, countedOn, playedAll, playOf, closedOf};
+ghost use Rattle.playback.specs.Play.{begunOf, countedOn, playedAll, playOf, playedOnAll, playOnOf, closedOf};
 use controller::run::Ran;
+use controller::run::run;
 use controller::run::run_stopping;
 use state::panel::Panel;
 use state::registers::Registers;
@@ -10,6 +11,13 @@ use state::registers::Registers;
 pub struct Played {
     pub ran: Ran,
     pub given: usize,
+}
+
+// Likewise, and how many pairs of the part were skipped.
+pub struct PlayedOn {
+    pub ran: Ran,
+    pub given: usize,
+    pub skipped: usize,
 }
 
 // Nothing played yet.
@@ -74,6 +82,36 @@ pub fn play(
     Played {
         ran: next,
         given: ran.answers,
+    }
+}
+
+// The same by the ordinary run, with a list of its own for the pairs skipped, their places counted from the part's start.
+pub fn play_on(
+    panel: Panel,
+    past: Ran,
+    mem: &mut [u8],
+    rom: &[u8],
+    part: &[u8],
+    answers: &mut [u8],
+    skips: &mut [usize],
+) -> PlayedOn
+    ensures { λ r. ⌜ playedOnAll r (now (mem .exit)) (now (answers .exit)) (now (skips .exit)) ≡ playOnOf panel past (now (mem .entry)) (now (rom .entry)) (now (part .entry)) (now (answers .entry)) (now (skips .entry)) ⌝ }
+{
+    if past.number != 0 {
+        return PlayedOn {
+            ran: past,
+            given: 0,
+            skipped: 0,
+        };
+    }
+    let registers = past.registers;
+    let gone = run(panel, registers, mem, rom, part, part.len() / 2, answers, skips);
+    let ran = gone.ran;
+    let next = counted(past, ran);
+    PlayedOn {
+        ran: next,
+        given: ran.answers,
+        skipped: gone.skipped,
     }
 }
 

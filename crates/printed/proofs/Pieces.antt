@@ -9,13 +9,17 @@ use Rattle.state.specs.State.{validPanel}
 use Rattle.display.specs.Frame.{frameFits}
 use Rattle.controller.specs.Types.{Panel}
 use Rattle.printed.specs.Text.{hexLines}
-use Rattle.printed.specs.Printed.{firstLine, frameLines, printed}
-use Rattle.printed.specs.Parts.{printLineOf, printAnswersOf, printRowsOf}
+use Rattle.printed.specs.Printed.{refusalLine, firstLine, frameLines, printed}
+use Rattle.printed.specs.Parts.{printLineOf, printRefusalOf, printAnswersOf, printRowsOf}
 use Rattle.printed.proofs.Texts.{printed-within}
 
 pub line-within : (pairs answers number place : ℕ) (out : List ℕ) {w : ℕ} {b : List ℕ} → printed w b ≡ printLineOf pairs answers number place out → w ≤ length b
 unfolding printLineOf
 line-within pairs answers number place out h = printed-within (leb 112 (length out)) (firstLine pairs answers number place) out h
+
+pub refusal-within : (number place : ℕ) (out : List ℕ) {w : ℕ} {b : List ℕ} → printed w b ≡ printRefusalOf number place out → w ≤ length b
+unfolding printRefusalOf
+refusal-within number place out h = printed-within (leb 56 (length out)) (refusalLine number place) out h
 
 pub answers-within : (given : ℕ) (answers out : List ℕ) {w : ℕ} {b : List ℕ} → printed w b ≡ printAnswersOf given answers out → w ≤ length b
 unfolding printAnswersOf

@@ -8,11 +8,15 @@ use Rattle.state.specs.State.{validPanel}
 use Rattle.display.specs.Frame.{frameFits}
 use Rattle.controller.specs.Types.{Panel}
 use Rattle.printed.specs.Text.{hexLines}
-use Rattle.printed.specs.Printed.{firstLine, frameLines, Printed, printText}
+use Rattle.printed.specs.Printed.{refusalLine, firstLine, frameLines, Printed, printText}
 
 -- lent: 112 bytes, which suffice
 unfoldable pub printLineOf : ℕ → ℕ → ℕ → ℕ → List ℕ → Printed
 printLineOf pairs answers number place out = printText (leb 112 (length out)) (firstLine pairs answers number place) out
+
+-- lent: 56 bytes, which suffice
+unfoldable pub printRefusalOf : ℕ → ℕ → List ℕ → Printed
+printRefusalOf number place out = printText (leb 56 (length out)) (refusalLine number place) out
 
 -- lent: the answers, and three bytes for each
 unfoldable pub printAnswersOf : ℕ → List ℕ → List ℕ → Printed

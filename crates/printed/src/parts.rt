@@ -1,9 +1,10 @@
 // A run's text in parts, for a program that prints as it goes on.
 ghost use mathlib.Core.Path.{_≡_};
 ghost use Rattle.printed.specs.Printed.{printed};
-ghost use Rattle.printed.specs.Parts.{printLineOf, printAnswersOf, printRowsOf};
+ghost use Rattle.printed.specs.Parts.{printLineOf, printRefusalOf, printAnswersOf, printRowsOf};
 use crate::put::put_first_line;
 use crate::put::put_hex_lines;
+use crate::put::put_refusal;
 use crate::screen::is_framed;
 use crate::screen::put_screen;
 use state::panel::Panel;
@@ -14,6 +15,17 @@ pub fn print_line(pairs: usize, answers: usize, number: u8, place: usize, out: &
 {
     if 112 <= out.len() {
         put_first_line(out, pairs, answers, number, place)
+    } else {
+        0
+    }
+}
+
+// A refusal's line, likewise; 0 where the room has less than 56 bytes.
+pub fn print_refusal(number: u8, place: usize, out: &mut [u8]) -> usize
+    ensures { λ r. ⌜ printed r (now (out .exit)) ≡ printRefusalOf number place (now (out .entry)) ⌝ }
+{
+    if 56 <= out.len() {
+        put_refusal(out, 0, number, place)
     } else {
         0
     }

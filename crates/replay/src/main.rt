@@ -1,5 +1,5 @@
-// The replay program: a character ROM, a panel and a log of any length from standard input; to standard output the answers as they come,
-// then what the run came to and the frame.
+// The replay program: a character ROM, a panel and a log of any length from standard input; to standard output the answers as they come
+// and, where it keeps going, the pairs skipped, then what the run came to and the frame.
 ghost use Rattle.io.specs.Counts.{Counts};
 use controller::run::Ran;
 use display::frame::paint;
@@ -8,10 +8,12 @@ use libc::STDOUT_FILENO;
 use playback::play::begin;
 use playback::play::close;
 use playback::play::play;
+use playback::play::play_on;
 use printed::fill::empty_memory;
 use printed::input::panel_in;
 use printed::parts::print_answers;
 use printed::parts::print_line;
+use printed::parts::print_refusal;
 use printed::parts::print_rows;
 use report::read_exact;
 use report::read_whole;
@@ -51,14 +53,70 @@ fn play_part(panel: Panel, past: Ran, memory: &mut [u8], rom: &[u8]) -> Heard {
     }
 }
 
+// The lines of the pairs skipped, their places counted from the whole log's start.
+fn tell_skipped(skips: &[usize], count: usize, before: usize) -> bool {
+    let mut i: usize = 0;
+    while i < count {
+        if skips.len() / 2 <= i {
+            return true;
+        }
+        let mut line = [0u8; 56];
+        let number = (skips[2 * i] % 256) as u8;
+        let place = std::num::wrapping_add_usize(before, skips[2 * i + 1]);
+        let end = put_refused(number, place, &mut line);
+        if !io::write_all(STDOUT_FILENO, &line[..end]) {
+            return false;
+        }
+        i += 1;
+    }
+    true
+}
+
+// The same by the ordinary run, with a line for each pair skipped.
+fn go_on(panel: Panel, past: Ran, memory: &mut [u8], rom: &[u8]) -> Heard {
+    let mut part = io::large_buffer();
+    let got = read_whole(STDIN_FILENO, &mut part);
+    if got.failed {
+        return Heard {
+            ran: past,
+            bytes: 0,
+            failed: true,
+        };
+    }
+    let whole = got.count / 2 * 2;
+    let mut answers = [0u8; 32768];
+    let mut skips = [0usize; 65536];
+    let before = past.taken;
+    let played = play_on(panel, past, memory, rom, &part[..whole], &mut answers, &mut skips);
+    let mut out = [0u8; 98304];
+    let lines = print_answers(played.given, &answers, &mut out);
+    let written = io::write_all(STDOUT_FILENO, &out[..lines]);
+    let told = tell_skipped(&skips, played.skipped, before);
+    let ran = played.ran;
+    Heard {
+        ran,
+        bytes: got.count,
+        failed: !written | !told,
+    }
+}
+
+// The next part by the run asked for.
+fn next_part(panel: Panel, past: Ran, memory: &mut [u8], rom: &[u8], keep: bool) -> Heard {
+    if keep {
+        go_on(panel, past, memory, rom)
+    } else {
+        play_part(panel, past, memory, rom)
+    }
+}
+
 // Part after part, from reset; the last one is shorter than the others. The turns end behind 2^48 bytes.
-fn play_all(panel: Panel, memory: &mut [u8], rom: &[u8]) -> Heard {
+fn play_all(panel: Panel, memory: &mut [u8], rom: &[u8], keep: bool) -> Heard {
     let registers = Registers::reset();
     let mut ran = begin(registers);
     let mut bytes: usize = 0;
     let mut turns: usize = 4294967296;
     while turns > 0 {
-        let heard = play_part(panel, ran, memory, rom);
+        let heard = next_part(panel, ran, memory, rom, keep);
         ran = heard.ran;
         bytes = std::num::wrapping_add_usize(bytes, heard.bytes);
         if heard.failed {
@@ -90,6 +148,13 @@ fn put_line(ran: Ran, out: &mut [u8]) -> usize
     ensures { λ r. ⌜ Counts r (now (out .exit)) ⌝ }
 {
     print_line(ran.taken, ran.answers, ran.number, ran.place, out)
+}
+
+// The line of a refused pair, likewise.
+fn put_refused(number: u8, place: usize, out: &mut [u8]) -> usize
+    ensures { λ r. ⌜ Counts r (now (out .exit)) ⌝ }
+{
+    print_refusal(number, place, out)
 }
 
 // The frame painted, and its rows, likewise.
@@ -134,9 +199,11 @@ fn main() {
         return;
     }
     let end = got.count;
-    let panel = panel_in(&head[..end], os::arg_count() > 1);
+    // `dual`, `keep going` or both: one, two or three words
+    let words = os::arg_count();
+    let panel = panel_in(&head[..end], (words == 2) | (words == 4));
     let mut memory = empty_memory();
-    let heard = play_all(panel, &mut memory, &rom);
+    let heard = play_all(panel, &mut memory, &rom, words > 2);
     if heard.failed {
         return;
     }

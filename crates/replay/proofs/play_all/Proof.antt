@@ -6,10 +6,10 @@ use Rattle.replay.proofs.play_all.Statement.{statement}
 use Rattle.replay.proofs.play_all.Tie as tie
 
 abbrev Inv-loop : tie.InvT-loop
-Inv-loop panel memory₀ rom registers ran₀ bytes₀ turns₀ memory ran bytes turns = length memory ≡ length memory₀
+Inv-loop panel memory₀ rom keep registers ran₀ bytes₀ turns₀ memory ran bytes turns = length memory ≡ length memory₀
 
 abbrev μ-loop : tie.MeasureT-loop
-μ-loop panel memory₀ rom registers ran₀ bytes₀ turns₀ memory ran bytes turns = turns
+μ-loop panel memory₀ rom keep registers ran₀ bytes₀ turns₀ memory ran bytes turns = turns
 
 reset-requires : tie.Need-reset-requires Inv-loop μ-loop
 reset-requires c κs = search needs
@@ -20,8 +20,8 @@ begin-requires c κs = search needs
 loop-holds : tie.Need-loop-holds Inv-loop μ-loop
 loop-holds c = refl
 
-play-part-requires : tie.Need-play-part-requires Inv-loop μ-loop
-play-part-requires c κs = search needs
+next-part-requires : tie.Need-next-part-requires Inv-loop μ-loop
+next-part-requires c κs = search needs
 
 wrapping-add-usize-requires : tie.Need-wrapping-add-usize-requires Inv-loop μ-loop
 wrapping-add-usize-requires c κs = search needs
@@ -65,7 +65,7 @@ play-all-spec =
     reset-requires
     begin-requires
     loop-holds
-    play-part-requires
+    next-part-requires
     wrapping-add-usize-requires
     same-length
     returns
