@@ -31,7 +31,7 @@ static long load(const char *name, unsigned char *bytes, unsigned long most)
 int main(int argc, char **argv)
 {
     unsigned long columns, lines, width, answer, row, x, row_size;
-    unsigned long counts[T6963C_COUNTS_SIZE];
+    unsigned long counts[T6963C_STOPPING_COUNTS_SIZE];
     unsigned char number;
     long length;
 
@@ -48,8 +48,9 @@ int main(int argc, char **argv)
     width = input[2];
 
     t6963c_reset(registers, sizeof registers);
-    number = t6963c_run(columns, lines, width, T6963C_SINGLE, registers, sizeof registers, memory, sizeof memory, rom, sizeof rom,
-                        input + 3, (unsigned long)length - 3, LOG_MAX, answers, sizeof answers, counts, T6963C_COUNTS_SIZE);
+    number = t6963c_run_stopping(columns, lines, width, T6963C_SINGLE, registers, sizeof registers, memory, sizeof memory,
+                                 rom, sizeof rom, input + 3, (unsigned long)length - 3, LOG_MAX, answers, sizeof answers,
+                                 counts, T6963C_STOPPING_COUNTS_SIZE);
     if (number == T6963C_NOT_VALID || number == T6963C_ODD_LOG) {
         fprintf(stderr, "show: refused: %d\n", number);
         return 1;

@@ -22,7 +22,8 @@
 #define T6963C_ROM_SIZE 1024        /* character ROM, exactly: row v (0 the top one) of code k (0 to 127) is byte 8 * k + v, and of it the
                                        low `width` bits show, the highest of them leftmost */
 #define T6963C_REGISTERS_SIZE 25    /* registers, exactly */
-#define T6963C_COUNTS_SIZE 3        /* a run's counts, exactly */
+#define T6963C_COUNTS_SIZE 4        /* an ordinary run's counts, exactly */
+#define T6963C_STOPPING_COUNTS_SIZE 3 /* those of a run that stops */
 #define T6963C_FRAME_SIZE_MAX 20480 /* the largest frame, a dual panel's */
 /* A row of the frame, and the frame, in bytes: the leftmost dot is in the top bit, spare bits at a row's end are 0. */
 #define T6963C_ROW_SIZE(columns, width) (((columns) * (width) + 7) / 8)
@@ -47,6 +48,7 @@
 #define T6963C_AGAINST_AUTO 7    /* data written in auto read, or read in auto write */
 #define T6963C_ODD_LOG 8         /* of a log: an odd number of bytes */
 #define T6963C_NO_ANSWER_ROOM 13 /* a read whose answer has no room */
+#define T6963C_NO_LIST_ROOM 16 /* a refused pair that the list has no room for */
 
 /* Where the registers stand among their 25 bytes, and their ranges. Words have their low byte first. */
 #define T6963C_CURSOR_X 0        /* 0 to 127 */
@@ -76,6 +78,7 @@
 #define T6963C_PLACE 0   /* the pair refused, the first being 0; on 8 the whole pairs; else 0 */
 #define T6963C_TAKEN 1   /* pairs taken */
 #define T6963C_ANSWERS 2 /* answers written */
+#define T6963C_SKIPPED 3 /* pairs skipped and listed, by an ordinary run */
 
 #ifdef __cplusplus
 extern "C" {
@@ -91,9 +94,12 @@ unsigned short t6963c_access(unsigned long columns, unsigned long lines, unsigne
                              const unsigned char *rom, unsigned long rom_length,
                              unsigned char kind, unsigned char byte);
 
-/* At most `limit` pairs (kind, byte) of a log, whose length is in bytes: the number. The counts are then filled in; a refused pair ends
-   the run and leaves what the pairs before it did. Every answer takes one byte of `answers`, so half the log's length is always enough.
-   A long log may be run in parts: go on with the rest of it, and the answers' rest, with the same registers and memory. */
+/* The ordinary run: at most `limit` pairs (kind, byte) of a log, whose length is in bytes: the number. The counts are then filled in. A
+   refused pair changes nothing; its number, 3 to 7, and its place, the pairs before it, go into `skips`, two elements a pair, and the run
+   goes on behind it. It stops before a pair whose answer or whose entry has no room. Every answer takes one byte of `answers` and every
+   entry two elements of `skips`, so half the log's length is always enough for the one, and its length for the other. A long log may be
+   run in parts: go on with the rest of it, of the answers and of the list, with the same registers and memory; places are then counted
+   from the part's start. */
 unsigned char t6963c_run(unsigned long columns, unsigned long lines, unsigned long width, unsigned char dual,
                          unsigned char *registers, unsigned long registers_length,
                          unsigned char *memory, unsigned long memory_length,
@@ -101,7 +107,18 @@ unsigned char t6963c_run(unsigned long columns, unsigned long lines, unsigned lo
                          const unsigned char *log, unsigned long log_length,
                          unsigned long limit,
                          unsigned char *answers, unsigned long answers_length,
+                         unsigned long *skips, unsigned long skips_length,
                          unsigned long *counts, unsigned long counts_length);
+
+/* The same, but that the first refused pair ends the run. */
+unsigned char t6963c_run_stopping(unsigned long columns, unsigned long lines, unsigned long width, unsigned char dual,
+                                  unsigned char *registers, unsigned long registers_length,
+                                  unsigned char *memory, unsigned long memory_length,
+                                  const unsigned char *rom, unsigned long rom_length,
+                                  const unsigned char *log, unsigned long log_length,
+                                  unsigned long limit,
+                                  unsigned char *answers, unsigned long answers_length,
+                                  unsigned long *counts, unsigned long counts_length);
 
 /* The frame, row after row: the number. A refusal leaves it as it was. */
 unsigned char t6963c_paint(unsigned long columns, unsigned long lines, unsigned long width, unsigned char dual,

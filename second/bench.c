@@ -70,22 +70,28 @@ static unsigned long make(unsigned work)
 
 static int runs(void)
 {
-    static const char *const works[] = {"run, blocks in auto write", "run, single stores", "run, asking, reads, bits, modes"};
+    static const char *const works[][2] = {{"run, blocks in auto write", "ordinary run, blocks"},
+                                           {"run, single stores", "ordinary run, single stores"},
+                                           {"run, asking, reads, bits, modes", "ordinary run, asking, reads, bits"}};
     const struct second_panel panel = {30, 8, 8, 0};
-    for (unsigned work = 0; work < 3; work++) {
+    for (unsigned each = 0; each < 6; each++) {
+        const unsigned work = each / 2, ordinary = each % 2;
         const unsigned long length = make(work);
         double times[3][ROUNDS];
         for (unsigned round = 0; round < ROUNDS; round++) {
             struct second_registers r, q;
             unsigned char b[REGISTERS], c[REGISTERS];
-            unsigned long counts[3];
+            unsigned long counts[4], list[16];
             second_reset(&r), q = r, to_bytes(&r, b);
             double before = now();
-            const unsigned number = t6963c_run(panel.columns, panel.lines, panel.width, 0, b, REGISTERS, memory, SECOND_MEMORY_LENGTH, rom,
+            const unsigned number =
+                ordinary ? t6963c_run(panel.columns, panel.lines, panel.width, 0, b, REGISTERS, memory, SECOND_MEMORY_LENGTH, rom,
+                                      SECOND_ROM_LENGTH, log_bytes, length, length, answers, LOG, list, 16, counts, 4)
+                         : t6963c_run_stopping(panel.columns, panel.lines, panel.width, 0, b, REGISTERS, memory, SECOND_MEMORY_LENGTH, rom,
                                                SECOND_ROM_LENGTH, log_bytes, length, length, answers, LOG, counts, 3);
             times[0][round] = now() - before, before = now();
-            const struct second_run_reply reply = second_run(&panel, &r, memory, SECOND_MEMORY_LENGTH, rom, SECOND_ROM_LENGTH, log_bytes,
-                                                             length, length, answers, LOG);
+            const struct second_run_reply reply = second_run_stopping(&panel, &r, memory, SECOND_MEMORY_LENGTH, rom, SECOND_ROM_LENGTH,
+                                                                      log_bytes, length, length, answers, LOG);
             times[1][round] = now() - before, before = now();
             const struct second_run_reply quick = fast_run(&panel, &q, memory, rom, log_bytes, length, length, answers, LOG);
             times[2][round] = now() - before;
@@ -95,7 +101,7 @@ static int runs(void)
                 return 1;
             }
         }
-        report(works[work], (double)length / 2, times[0], times[1], times[2]);
+        report(works[work][ordinary], (double)length / 2, times[0], times[1], times[2]);
     }
     return 0;
 }

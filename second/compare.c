@@ -1,5 +1,6 @@
 /* The proved controller against the second one, in one process: random logs, from random valid and invalid states and memories, on dual
-   panels half of the time, in two parts, everything compared after each. `compare SEED PAIRS` goes on until it has compared that many
+   panels half of the time, by the run that stops and by the ordinary one with lists of 0 to 5 entries, in two parts, everything compared
+   after each. `compare SEED PAIRS` goes on until it has compared that many
    pairs. Every fiftieth seed is tried once more with a long block of data in its log; these pairs are counted beside, and not among the
    wanted ones. */
 #include "../include/bintarumpe.h"
@@ -14,7 +15,7 @@ void *memcpy(void *to, const void *from, unsigned long count);
 int memcmp(const void *one, const void *other, unsigned long count);
 
 /* BLOCK: the pairs of the longest block and of what leads to it. */
-enum { ANSWERS = 300, COUNTS = 4, FRAME = 8 * 32 * 80, LOG = 1200, BLOCK = 2 * 65536 + 200, EVERY = 50 };
+enum { ANSWERS = 300, COUNTS = 5, LIST = 11, FRAME = 8 * 32 * 80, LOG = 1200, BLOCK = 2 * 65536 + 200, EVERY = 50 };
 
 /* One side's buffers. */
 struct side {
@@ -22,8 +23,9 @@ struct side {
     unsigned char answers[ANSWERS];
     unsigned char frame[FRAME + 1];
     unsigned char registers[REGISTERS];
+    unsigned long list[LIST];
     unsigned number;
-    unsigned long place, taken, given;
+    unsigned long place, taken, given, listed;
     unsigned painted;
     /* number, text, graphic and shown of a cell row, the number lowest */
     unsigned layers;
@@ -36,7 +38,8 @@ struct trial {
     unsigned char memory[SECOND_MEMORY_LENGTH];
     unsigned char rom[SECOND_ROM_LENGTH];
     unsigned char log[LOG + 2 * BLOCK];
-    unsigned long log_length, limit, answers_length, frame_length, memory_length, rom_length, counts_length;
+    unsigned long log_length, limit, answers_length, frame_length, memory_length, rom_length, counts_length, list_length;
+    int skips;
 };
 
 static struct trial trial;
@@ -57,11 +60,18 @@ static unsigned long column_of(const struct side *s)
 static void run_proved(struct side *s, unsigned long from, unsigned long limit)
 {
     unsigned long counts[COUNTS] = {0};
-    const unsigned long before = s->given;
-    s->number = t6963c_run(trial.panel.columns, trial.panel.lines, trial.panel.width, (unsigned char)trial.panel.dual, s->registers,
-                           REGISTERS, s->memory, trial.memory_length, trial.rom, trial.rom_length, trial.log + from,
-                           trial.log_length - from, limit, s->answers + before, trial.answers_length - before, counts, trial.counts_length);
-    s->place = counts[0], s->taken = counts[1], s->given = before + counts[2];
+    const unsigned long before = s->given, listed = s->listed;
+    if (trial.skips)
+        s->number = t6963c_run(trial.panel.columns, trial.panel.lines, trial.panel.width, (unsigned char)trial.panel.dual, s->registers,
+                               REGISTERS, s->memory, trial.memory_length, trial.rom, trial.rom_length, trial.log + from,
+                               trial.log_length - from, limit, s->answers + before, trial.answers_length - before, s->list + 2 * listed,
+                               trial.list_length - 2 * listed, counts, trial.counts_length);
+    else
+        s->number = t6963c_run_stopping(trial.panel.columns, trial.panel.lines, trial.panel.width, (unsigned char)trial.panel.dual,
+                                        s->registers, REGISTERS, s->memory, trial.memory_length, trial.rom, trial.rom_length,
+                                        trial.log + from, trial.log_length - from, limit, s->answers + before,
+                                        trial.answers_length - before, counts, trial.counts_length);
+    s->place = counts[0], s->taken = counts[1], s->given = before + counts[2], s->listed = listed + counts[3];
     s->painted = t6963c_paint(trial.panel.columns, trial.panel.lines, trial.panel.width, (unsigned char)trial.panel.dual, s->registers,
                               REGISTERS, s->memory, trial.memory_length, trial.rom, trial.rom_length, s->frame, trial.frame_length);
     s->layers = t6963c_layers(trial.panel.columns, trial.panel.lines, trial.panel.width, (unsigned char)trial.panel.dual, s->registers,
@@ -72,18 +82,23 @@ static void run_second(struct side *s, unsigned long from, unsigned long limit)
 {
     struct second_registers r;
     struct second_layers_reply seen;
-    const unsigned long before = s->given;
+    const unsigned long before = s->given, listed = s->listed;
     from_bytes(s->registers, &r);
-    /* Counts of another length than three are refused like any other fixed length: by 2, where panel and state are valid. */
-    if (trial.counts_length != 3) {
-        s->number = second_run(&trial.panel, &r, s->memory, trial.memory_length, trial.rom, trial.rom_length, trial.log, 0, 0,
-                               s->answers, 0).number == 1 ? 1 : 2;
+    /* Counts of another length are refused like any other fixed length: by 2, where panel and state are valid. */
+    if (trial.counts_length != (trial.skips ? 4 : 3)) {
+        s->number = second_run_stopping(&trial.panel, &r, s->memory, trial.memory_length, trial.rom, trial.rom_length, trial.log, 0, 0,
+                                        s->answers, 0).number == 1 ? 1 : 2;
         s->place = s->taken = 0;
     } else {
         const struct second_run_reply reply =
-            second_run(&trial.panel, &r, s->memory, trial.memory_length, trial.rom, trial.rom_length, trial.log + from,
-                       trial.log_length - from, limit, s->answers + before, trial.answers_length - before);
+            trial.skips
+                ? second_run(&trial.panel, &r, s->memory, trial.memory_length, trial.rom, trial.rom_length, trial.log + from,
+                             trial.log_length - from, limit, s->answers + before, trial.answers_length - before, s->list + 2 * listed,
+                             trial.list_length - 2 * listed)
+                : second_run_stopping(&trial.panel, &r, s->memory, trial.memory_length, trial.rom, trial.rom_length, trial.log + from,
+                                      trial.log_length - from, limit, s->answers + before, trial.answers_length - before);
         s->number = reply.number, s->place = reply.place, s->taken = reply.taken, s->given = before + reply.answers;
+        s->listed = listed + reply.skipped;
     }
     to_bytes(&r, s->registers);
     s->painted = second_frame(&trial.panel, &r, s->memory, trial.memory_length, trial.rom, trial.rom_length, s->frame,
@@ -97,7 +112,8 @@ static void run_second(struct side *s, unsigned long from, unsigned long limit)
 static int same(void)
 {
     return proved.number == second.number && proved.place == second.place && proved.taken == second.taken &&
-           proved.given == second.given && proved.painted == second.painted && proved.layers == second.layers &&
+           proved.given == second.given && proved.listed == second.listed &&
+           memcmp(proved.list, second.list, sizeof proved.list) == 0 && proved.painted == second.painted && proved.layers == second.layers &&
            memcmp(proved.registers, second.registers, REGISTERS) == 0 &&
            memcmp(proved.memory, second.memory, SECOND_MEMORY_LENGTH) == 0 &&
            memcmp(proved.answers, second.answers, ANSWERS) == 0 && memcmp(proved.frame, second.frame, FRAME + 1) == 0;
@@ -111,7 +127,9 @@ static void begin(struct side *s)
         s->answers[i] = (unsigned char)(i * 7);
     for (unsigned i = 0; i <= FRAME; i++)
         s->frame[i] = (unsigned char)(i * 5);
-    s->given = 0;
+    for (unsigned i = 0; i < LIST; i++)
+        s->list[i] = 1000 + i;
+    s->given = s->listed = 0;
 }
 
 /* Both parts of the log; the second only where the first stopped by number. Pairs taken, or -1 where they differ. */
@@ -184,8 +202,12 @@ static void make(unsigned long long seed)
         trial.frame_length = below(&random, FRAME);
     trial.memory_length = below(&random, 40) ? SECOND_MEMORY_LENGTH : SECOND_MEMORY_LENGTH - 1;
     trial.rom_length = below(&random, 40) ? SECOND_ROM_LENGTH : SECOND_ROM_LENGTH - 1;
-    trial.counts_length = below(&random, 40) ? 3 : 2 + 2 * below(&random, 2);
-    if (trial.counts_length != 3 && below(&random, 2))
+    trial.skips = (int)below(&random, 2);
+    trial.list_length = below(&random, LIST + 1);
+    trial.counts_length = 3 + trial.skips;
+    if (below(&random, 40) == 0)
+        trial.counts_length += below(&random, 2) ? 1 : -1UL;
+    if (trial.counts_length != 3UL + trial.skips && below(&random, 2))
         trial.registers[17] = 0; /* no cursor height: 1 comes before 2 */
 }
 
@@ -242,6 +264,20 @@ static struct block lengthen(unsigned long long seed)
     return block;
 }
 
+/* What the seeds reached by the ordinary run: pairs, pairs listed, and lists that were full. */
+static struct {
+    unsigned long long pairs, listed, full;
+} skipping;
+
+static void count_skipping(long taken)
+{
+    if (!trial.skips)
+        return;
+    skipping.pairs += (unsigned long long)taken;
+    skipping.listed += second.listed;
+    skipping.full += second.number == 16;
+}
+
 /* What the seeds reached on dual panels: pairs, and frames with a cursor in the upper and in the lower half. */
 static struct {
     unsigned long long pairs, cursors[2];
@@ -272,7 +308,8 @@ static void shrink(unsigned long long seed)
                 trial = kept;
         }
     (void)compare();
-    printf("differs at seed %llu: panel %u %u %u, marker %u, limit %lu, answers %lu, log", seed, trial.panel.columns, trial.panel.lines,
+    printf("differs at seed %llu: %s, list %lu, panel %u %u %u, marker %u, limit %lu, answers %lu, log", seed,
+           trial.skips ? "run" : "run_stopping", trial.list_length, trial.panel.columns, trial.panel.lines,
            trial.panel.width, trial.panel.dual, trial.limit, trial.answers_length);
     for (unsigned long i = 0; i < trial.log_length && i < LOG; i++)
         printf(" %02X", trial.log[i]);
@@ -305,6 +342,7 @@ int main(int count, char **words)
             }
             passed++;
             count_halves(taken);
+            count_skipping(taken);
             *(again ? &more : &pairs) += (unsigned long long)taken;
             if (again && (unsigned long)taken > block.begin + block.pairs) {
                 longer += block.pairs > 65536;
@@ -315,6 +353,7 @@ int main(int count, char **words)
            seed - 1, pairs, more, longer, wrapped);
     printf("dual panels: %llu pairs, %llu frames with the cursor in the upper half, %llu in the lower\n", halves.pairs, halves.cursors[0],
            halves.cursors[1]);
+    printf("ordinary runs: %llu pairs, %llu of them skipped, %llu lists full\n", skipping.pairs, skipping.listed, skipping.full);
     printf("%llu passed, %llu failed\n", passed, failed);
     return failed != 0;
 }

@@ -53,7 +53,7 @@ static int same_runs(void)
     unsigned long at = 0, given = 0, limit = below(&generator, (unsigned)length + 2);
     begin();
     for (unsigned part = 0; part < 2; part++, limit = ~0UL) {
-        second.reply = second_run(&panel, &second.registers, second.memory, SECOND_MEMORY_LENGTH, rom, SECOND_ROM_LENGTH, pairs + 2 * at,
+        second.reply = second_run_stopping(&panel, &second.registers, second.memory, SECOND_MEMORY_LENGTH, rom, SECOND_ROM_LENGTH, pairs + 2 * at,
                                   2 * (length - at), limit, second.answers + given, room - given);
         fast.reply = fast_run(&panel, &fast.registers, fast.memory, rom, pairs + 2 * at, 2 * (length - at), limit, fast.answers + given,
                               room - given);

@@ -195,7 +195,7 @@ static void refusals(void)
         struct second_run_reply run;
         panel.lines = bad[i].lines;
         panel.dual = bad[i].dual;
-        run = second_run(&panel, &registers, memory, 1, rom, 1, log, 1, 1, NULL, 0);
+        run = second_run(&panel, &registers, memory, 1, rom, 1, log, 1, 1, NULL, 0, NULL, 0);
         if (run.number != 1 || run.place != 0 || run.taken != 0) holds = 0;
         if (second_frame(&panel, &registers, memory, 1, rom, 1, frame, 0) != 1) holds = 0;
         if (take(SECOND_TICK, 0).number != 1) holds = 0;

@@ -40,7 +40,7 @@ int main(int argc, char **argv)
         for (v = 0; v < 8; v++) rom[8 * code + v] = (unsigned char)((code + v) % 256);
     }
     second_reset(&registers);
-    reply = second_run(&panel, &registers, memory, SECOND_MEMORY_LENGTH, rom, SECOND_ROM_LENGTH, input + HEAD_BYTES, log_length,
+    reply = second_run_stopping(&panel, &registers, memory, SECOND_MEMORY_LENGTH, rom, SECOND_ROM_LENGTH, input + HEAD_BYTES, log_length,
                        log_length / 2, answers, ANSWER_ROOM);
     printf("pairs %lu answers %lu refusal %u place %lu\n", reply.taken, reply.answers, reply.number, reply.place);
     for (layer = 0; layer < 3 && reply.number != 1 && reply.number != 8; layer++) {

@@ -37,8 +37,8 @@ int main(void)
     }
     second_reset(&registers);
 
-    reply = second_run(&panel, &registers, memory, SECOND_MEMORY_LENGTH, rom, SECOND_ROM_LENGTH,
-                       input + PANEL_BYTES, log_length, log_length / 2, answers, ANSWER_ROOM);
+    reply = second_run_stopping(&panel, &registers, memory, SECOND_MEMORY_LENGTH, rom, SECOND_ROM_LENGTH,
+                                input + PANEL_BYTES, log_length, log_length / 2, answers, ANSWER_ROOM);
     printf("pairs %lu answers %lu refusal %u place %lu\n", reply.taken, reply.answers, reply.number, reply.place);
     if (reply.number != 1 && reply.number != 8) {
         for (answer = 0; answer < reply.answers; answer++) printf("%02X\n", answers[answer]);

@@ -197,14 +197,14 @@ static void fixed_lengths(void)
             && second_access(&panel_1_1_8, &invalid, memory, 0, rom, 0, 9, 0).number == 1;
     point("access: 1 before 2", holds);
 
-    run = second_run(&panel_1_1_8, &registers, memory, SECOND_MEMORY_LENGTH + 1, rom, SECOND_ROM_LENGTH, log, 3, 9, answers, 2);
+    run = second_run_stopping(&panel_1_1_8, &registers, memory, SECOND_MEMORY_LENGTH + 1, rom, SECOND_ROM_LENGTH, log, 3, 9, answers, 2);
     holds = run.number == 2 && run.place == 0 && run.taken == 0 && run.answers == 0;
-    run = second_run(&panel_1_1_8, &registers, memory, SECOND_MEMORY_LENGTH, rom, SECOND_ROM_LENGTH - 1, log, 3, 9, answers, 2);
+    run = second_run_stopping(&panel_1_1_8, &registers, memory, SECOND_MEMORY_LENGTH, rom, SECOND_ROM_LENGTH - 1, log, 3, 9, answers, 2);
     holds = holds && run.number == 2 && run.place == 0 && run.taken == 0 && run.answers == 0;
     point("run: 2 before 8", holds && same(&registers, &before));
-    run = second_run(&bad, &registers, memory, 0, rom, 0, log, 3, 9, answers, 2);
+    run = second_run_stopping(&bad, &registers, memory, 0, rom, 0, log, 3, 9, answers, 2);
     point("run: 1 before 2", run.number == 1 && run.place == 0);
-    run = second_run(&panel_1_1_8, &registers, memory, SECOND_MEMORY_LENGTH, rom, SECOND_ROM_LENGTH, log, 3, 0, answers, 2);
+    run = second_run_stopping(&panel_1_1_8, &registers, memory, SECOND_MEMORY_LENGTH, rom, SECOND_ROM_LENGTH, log, 3, 0, answers, 2);
     point("run: 8 even where the limit is 0", run.number == 8 && run.place == 1 && run.taken == 0 && same(&registers, &before));
 
     memset(frame, 0xEE, sizeof frame);
@@ -221,8 +221,8 @@ static void fixed_lengths(void)
 static struct second_run_reply run_from(struct second_registers *registers, const unsigned char *log, unsigned long length,
                                         unsigned long limit, unsigned char *answers, unsigned long room)
 {
-    return second_run(&panel_1_1_8, registers, memory, SECOND_MEMORY_LENGTH, rom, SECOND_ROM_LENGTH,
-                      log, length, limit, answers, room);
+    return second_run_stopping(&panel_1_1_8, registers, memory, SECOND_MEMORY_LENGTH, rom, SECOND_ROM_LENGTH,
+                               log, length, limit, answers, room);
 }
 
 static void no_room(void)

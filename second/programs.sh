@@ -6,6 +6,8 @@ passed=0
 failed=0
 # the word `dual` where the panels are in two halves: generators, proved and second programs are all told
 dual=
+# and `keep going` where refused pairs are skipped: the replay programs alone
+keep=
 
 # counted: the last line
 counted() {
@@ -46,13 +48,13 @@ run_proved() {
         cat "$root/tests/bench.rom" "$work/in" >"$work/lent"
         run "$1" rom dual <"$work/lent"
         ;;
-    *) run "$1" ${dual:+dual} <"$work/in" ;;
+    *) run "$1" ${dual:+dual} ${keep:+keep going} <"$work/in" ;;
     esac
 }
 
 # run_second PROGRAM: the same
 run_second() {
-    "$work/$1" ${dual:+dual} <"$work/in"
+    "$work/$1" ${dual:+dual} ${keep:+keep going} <"$work/in"
 }
 
 # generate_in KIND SEED FILE: the random input of a seed

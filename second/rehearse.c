@@ -12,7 +12,7 @@
 #define UNTOUCHED 0xEE
 
 static unsigned char input[GENERATE_BOOK_ROOM], again[GENERATE_BOOK_ROOM];
-static unsigned char memory[SECOND_MEMORY_LENGTH], before[SECOND_MEMORY_LENGTH];
+static unsigned char memory[SECOND_MEMORY_LENGTH], before[SECOND_MEMORY_LENGTH], stopping[SECOND_MEMORY_LENGTH];
 static unsigned char last_frame[20480]; /* 8 * 32 * 80, the largest frame */
 
 /* Each lent piece is allocated at its exact length, so that a sanitizer sees the first byte past it. */
@@ -30,8 +30,8 @@ static struct {
 } seen;
 
 static struct {
-    int repeats, writer_replies, picture_replies, room, run, frames, planes, outside, nothing_changed;
-} holds = {1, 1, 1, 1, 1, 1, 1, 1, 1};
+    int repeats, writer_replies, picture_replies, room, run, either_run, frames, planes, outside, nothing_changed;
+} holds = {1, 1, 1, 1, 1, 1, 1, 1, 1, 1};
 
 static void expect(int *property, int condition, unsigned long long seed, const char *what)
 {
@@ -168,17 +168,25 @@ static void count_cursor(const struct second_registers *registers)
 static void rehearse_run(struct generate_random *random, unsigned long long seed,
                          const unsigned char *stream, unsigned long pairs)
 {
-    struct second_registers registers;
-    struct second_run_reply run;
+    struct second_registers registers, others;
+    struct second_run_reply run, other;
     unsigned long address;
     unsigned normal;
     draw_registers(random, &registers);
+    others = registers;
     fill(random, memory, sizeof memory);
     memcpy(before, memory, sizeof memory);
+    memcpy(stopping, memory, sizeof memory);
     run = second_run(&lent.panel, &registers, memory, sizeof memory, lent.rom, SECOND_ROM_LENGTH,
-                     stream, 2 * pairs, ULONG_MAX, NULL, 0);
-    expect(&holds.run, run.number == 0 && run.place == 0 && run.taken == pairs && run.answers == 0, seed,
-           "the stream is not accepted whole");
+                     stream, 2 * pairs, ULONG_MAX, NULL, 0, NULL, 0);
+    expect(&holds.run, run.number == 0 && run.place == 0 && run.taken == pairs && run.answers == 0 && run.skipped == 0,
+           seed, "the stream is not accepted whole");
+    other = second_run_stopping(&lent.panel, &others, stopping, sizeof stopping, lent.rom, SECOND_ROM_LENGTH,
+                                stream, 2 * pairs, ULONG_MAX, NULL, 0);
+    expect(&holds.either_run, other.number == 0 && other.taken == pairs
+                              && memcmp(&registers, &others, sizeof others) == 0
+                              && memcmp(memory, stopping, sizeof memory) == 0, seed,
+           "the stopping run ends elsewhere");
 
     for (normal = 0; normal < 2; normal++) {
         struct second_picture_reply reply = draw(normal);
@@ -323,6 +331,7 @@ int main(int argc, char **argv)
     property("the stream fills the room's start, the rest is unchanged", holds.room);
     property("a refusal changes no lent byte", holds.nothing_changed);
     property("from any valid state and memory the stream is accepted whole", holds.run);
+    property("by either run, which end alike", holds.either_run);
     property("the machine then shows the picture, in both phases", holds.frames);
     property("the three areas hold the picture's planes", holds.planes);
     property("memory outside the three areas is unchanged", holds.outside);

@@ -34,7 +34,8 @@ int main(int argc, char **argv)
     struct second_registers registers;
     struct second_run_reply reply;
     unsigned char *input, *answers;
-    unsigned long length, log_length, answer;
+    unsigned long *list;
+    unsigned long length, log_length, answer, entry;
 
     if (fread(rom, 1, sizeof rom, stdin) != sizeof rom || (input = rest(&length)) == NULL) {
         fputs("replay: standard input cannot be read\n", stderr);
@@ -42,20 +43,24 @@ int main(int argc, char **argv)
     }
     log_length = length > PANEL_BYTES ? length - PANEL_BYTES : 0;
     answers = malloc(log_length / 2 + 1);
-    if (answers == NULL) {
-        fputs("replay: no memory for the answers\n", stderr);
+    list = malloc((log_length + 1) * sizeof *list);
+    if (answers == NULL || list == NULL) {
+        fputs("replay: no memory for the answers and the list\n", stderr);
         return 1;
     }
     panel.columns = length > 0 ? input[0] : 0;
     panel.lines = length > 1 ? input[1] : 0;
     panel.width = length > 2 ? input[2] : 0;
-    panel.dual = argc > 1;
+    panel.dual = argc == 2 || argc == 4; /* `dual`, `keep going`, or both */
     (void)argv;
     second_reset(&registers);
 
-    reply = second_run(&panel, &registers, memory, SECOND_MEMORY_LENGTH, rom, SECOND_ROM_LENGTH,
-                       input + PANEL_BYTES, log_length, log_length / 2, answers, log_length / 2);
+    reply = argc > 2 ? second_run(&panel, &registers, memory, SECOND_MEMORY_LENGTH, rom, SECOND_ROM_LENGTH,
+                                  input + PANEL_BYTES, log_length, log_length / 2, answers, log_length / 2, list, log_length)
+                     : second_run_stopping(&panel, &registers, memory, SECOND_MEMORY_LENGTH, rom, SECOND_ROM_LENGTH,
+                                           input + PANEL_BYTES, log_length, log_length / 2, answers, log_length / 2);
     for (answer = 0; answer < reply.answers; answer++) printf("%02X\n", answers[answer]);
+    for (entry = 0; argc > 2 && entry < reply.skipped; entry++) printf("refusal %lu place %lu\n", list[2 * entry], list[2 * entry + 1]);
     printf("pairs %lu answers %lu refusal %u place %lu\n", reply.taken, reply.answers, reply.number, reply.place);
     if (reply.number != 1 && reply.number != 8) {
         second_frame(&panel, &registers, memory, SECOND_MEMORY_LENGTH, rom, SECOND_ROM_LENGTH,

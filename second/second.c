@@ -470,41 +470,83 @@ struct second_reply second_access(const struct second_panel *panel, struct secon
     return reply;
 }
 
+/* A run before its first pair: number 0, 1, 2 or 8. */
+static struct second_run_reply run_start(const struct second_panel *panel, const struct second_registers *registers,
+                                         unsigned long memory_length, unsigned long rom_length,
+                                         unsigned long log_length)
+{
+    struct second_run_reply reply = {0, 0, 0, 0, 0};
+    reply.number = lent_number(panel, registers, memory_length, rom_length);
+    if (reply.number == 0 && log_length % 2 != 0) {
+        reply.number = 8;
+        reply.place = log_length / 2;
+    }
+    return reply;
+}
+
+/* The next pair of a run, taken if it can be: its number, 0, 3 to 7 or 13. All but 0 change nothing. */
+static unsigned run_pair(const struct second_panel *panel, struct second_registers *registers,
+                         unsigned char *memory, const unsigned char *rom, const unsigned char *pair,
+                         unsigned char *answers, unsigned long answers_length, struct second_run_reply *reply)
+{
+    unsigned char kind = pair[0];
+    unsigned char byte = pair[1];
+    int reads = kind == SECOND_DATA_READ || kind == SECOND_STATUS_READ;
+    unsigned number = pair_number(registers, kind, byte);
+    unsigned char read;
+    if (number != 0) return number;
+    if (reads && reply->answers == answers_length) return 13;
+    read = take_pair(panel, registers, memory, rom, kind, byte);
+    if (reads) {
+        answers[reply->answers] = read;
+        reply->answers++;
+    }
+    return 0;
+}
+
+static struct second_run_reply stopped(struct second_run_reply reply, unsigned number)
+{
+    reply.number = number;
+    reply.place = reply.taken;
+    return reply;
+}
+
 struct second_run_reply second_run(const struct second_panel *panel, struct second_registers *registers,
                                    unsigned char *memory, unsigned long memory_length,
                                    const unsigned char *rom, unsigned long rom_length,
                                    const unsigned char *log, unsigned long log_length, unsigned long limit,
-                                   unsigned char *answers, unsigned long answers_length)
+                                   unsigned char *answers, unsigned long answers_length,
+                                   unsigned long *list, unsigned long list_length)
 {
-    struct second_run_reply reply;
-    unsigned long pairs = log_length / 2;
-    reply.place = 0;
-    reply.taken = 0;
-    reply.answers = 0;
-    reply.number = lent_number(panel, registers, memory_length, rom_length);
+    struct second_run_reply reply = run_start(panel, registers, memory_length, rom_length, log_length);
     if (reply.number != 0) return reply;
-    if (log_length % 2 != 0) {
-        reply.number = 8;
-        reply.place = pairs;
-        return reply;
+    while (reply.taken < limit && reply.taken < log_length / 2) {
+        unsigned number = run_pair(panel, registers, memory, rom, log + 2 * reply.taken,
+                                   answers, answers_length, &reply);
+        if (number == 13) return stopped(reply, 13);
+        if (number != 0) {
+            if (reply.skipped == list_length / 2) return stopped(reply, 16);
+            list[2 * reply.skipped] = number;
+            list[2 * reply.skipped + 1] = reply.taken;
+            reply.skipped++;
+        }
+        reply.taken++;
     }
+    return reply;
+}
 
-    while (reply.taken < limit && reply.taken < pairs) {
-        unsigned char kind = log[2 * reply.taken];
-        unsigned char byte = log[2 * reply.taken + 1];
-        int reads = kind == SECOND_DATA_READ || kind == SECOND_STATUS_READ;
-        unsigned char read;
-        reply.number = pair_number(registers, kind, byte);
-        if (reply.number == 0 && reads && reply.answers == answers_length) reply.number = 13;
-        if (reply.number != 0) {
-            reply.place = reply.taken;
-            return reply;
-        }
-        read = take_pair(panel, registers, memory, rom, kind, byte);
-        if (reads) {
-            answers[reply.answers] = read;
-            reply.answers++;
-        }
+struct second_run_reply second_run_stopping(const struct second_panel *panel, struct second_registers *registers,
+                                            unsigned char *memory, unsigned long memory_length,
+                                            const unsigned char *rom, unsigned long rom_length,
+                                            const unsigned char *log, unsigned long log_length, unsigned long limit,
+                                            unsigned char *answers, unsigned long answers_length)
+{
+    struct second_run_reply reply = run_start(panel, registers, memory_length, rom_length, log_length);
+    if (reply.number != 0) return reply;
+    while (reply.taken < limit && reply.taken < log_length / 2) {
+        unsigned number = run_pair(panel, registers, memory, rom, log + 2 * reply.taken,
+                                   answers, answers_length, &reply);
+        if (number != 0) return stopped(reply, number);
         reply.taken++;
     }
     return reply;

@@ -64,8 +64,9 @@ struct second_reply {
 struct second_run_reply {
     unsigned number;
     unsigned long place;
-    unsigned long taken;   /* pairs */
+    unsigned long taken;   /* pairs, skipped ones too */
     unsigned long answers; /* bytes written */
+    unsigned long skipped; /* entries listed; 0 for a stopping run */
 };
 
 void second_reset(struct second_registers *registers);
@@ -107,11 +108,21 @@ struct second_reply second_access(const struct second_panel *panel, struct secon
                                   const unsigned char *rom, unsigned long rom_length,
                                   unsigned char kind, unsigned char byte);
 
-/* At most limit pairs of the log; registers, memory and answers are those after the pairs taken. */
+/* At most limit pairs of the log; registers, memory and answers are those after the pairs taken. A refused pair is
+   skipped and listed: its number, then its place. list_length counts numbers; an odd last one is never used.
+   The number: 0, 1, 2, 8, 13, or 16 where the list is full. */
 struct second_run_reply second_run(const struct second_panel *panel, struct second_registers *registers,
                                    unsigned char *memory, unsigned long memory_length,
                                    const unsigned char *rom, unsigned long rom_length,
                                    const unsigned char *log, unsigned long log_length, unsigned long limit,
-                                   unsigned char *answers, unsigned long answers_length);
+                                   unsigned char *answers, unsigned long answers_length,
+                                   unsigned long *list, unsigned long list_length);
+
+/* The same, but the first refused pair ends it. The number: 0 to 8 or 13. */
+struct second_run_reply second_run_stopping(const struct second_panel *panel, struct second_registers *registers,
+                                            unsigned char *memory, unsigned long memory_length,
+                                            const unsigned char *rom, unsigned long rom_length,
+                                            const unsigned char *log, unsigned long log_length, unsigned long limit,
+                                            unsigned char *answers, unsigned long answers_length);
 
 #endif

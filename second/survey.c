@@ -98,7 +98,7 @@ static void count_attributes(const struct second_panel *panel, const struct seco
 static struct second_run_reply step_through(const struct second_panel *panel, struct second_registers *registers,
                                             const unsigned char *log, unsigned long length)
 {
-    struct second_run_reply reply = {0, 0, 0, 0};
+    struct second_run_reply reply = {0, 0, 0, 0, 0};
     for (; reply.taken < length / 2; reply.taken++) {
         unsigned char kind = log[2 * reply.taken];
         unsigned char byte = log[2 * reply.taken + 1];
@@ -121,12 +121,12 @@ static struct second_run_reply run_in_parts(const struct second_panel *panel, st
                                             const unsigned char *log, unsigned long length, unsigned long first)
 {
     struct second_run_reply one, two;
-    one = second_run(panel, registers, other, sizeof other, rom, sizeof rom, log, length, first,
-                     other_answers, sizeof other_answers);
+    one = second_run_stopping(panel, registers, other, sizeof other, rom, sizeof rom, log, length, first,
+                              other_answers, sizeof other_answers);
     if (one.number != 0) return one;
-    two = second_run(panel, registers, other, sizeof other, rom, sizeof rom, log + 2 * one.taken,
-                     length - 2 * one.taken, length, other_answers + one.answers,
-                     sizeof other_answers - one.answers);
+    two = second_run_stopping(panel, registers, other, sizeof other, rom, sizeof rom, log + 2 * one.taken,
+                              length - 2 * one.taken, length, other_answers + one.answers,
+                              sizeof other_answers - one.answers);
     if (two.number != 0) two.place += one.taken;
     two.taken += one.taken;
     two.answers += one.answers;

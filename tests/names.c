@@ -25,7 +25,8 @@ static unsigned command(unsigned code, unsigned d1, unsigned d2)
 static int tried(void)
 {
     static const unsigned char odd[3] = {0, 0, 0}, reads[6] = {3, 0, 3, 0, 3, 0};
-    unsigned long counts[T6963C_COUNTS_SIZE];
+    static const unsigned char torn[8] = {5, 0, 3, 0, 1, 0x24, 3, 0};
+    unsigned long counts[T6963C_COUNTS_SIZE], skips[4];
     unsigned char answers[2];
     HOLDS(t6963c_reset(r, sizeof r) == T6963C_DONE);
     HOLDS(t6963c_reset(r, sizeof r - 1) == T6963C_LENGTH);
@@ -56,11 +57,18 @@ static int tried(void)
     HOLDS(access(T6963C_COMMAND, 0x94) == T6963C_IN_AUTO && access(T6963C_DATA_READ, 0) == T6963C_AGAINST_AUTO);
     HOLDS(access(T6963C_COMMAND, 0xB2) == T6963C_DONE && access(T6963C_COMMAND, 0xB1) == T6963C_DONE && r[T6963C_AUTO] == 2);
     HOLDS(access(T6963C_COMMAND, 0xB2) == T6963C_DONE && access(T6963C_COMMAND, 0x24) == T6963C_FEW_DATA);
-    HOLDS(t6963c_run(2, 1, 6, 0, r, sizeof r, memory, sizeof memory, rom, sizeof rom, odd, sizeof odd, 9, answers, 2, counts,
-                     T6963C_COUNTS_SIZE) == T6963C_ODD_LOG && counts[T6963C_PLACE] == 1);
-    HOLDS(t6963c_run(2, 1, 6, 0, r, sizeof r, memory, sizeof memory, rom, sizeof rom, reads, sizeof reads, 9, answers, 2, counts,
-                     T6963C_COUNTS_SIZE) == T6963C_NO_ANSWER_ROOM);
+    HOLDS(t6963c_run_stopping(2, 1, 6, 0, r, sizeof r, memory, sizeof memory, rom, sizeof rom, odd, sizeof odd, 9, answers, 2, counts,
+                     T6963C_STOPPING_COUNTS_SIZE) == T6963C_ODD_LOG && counts[T6963C_PLACE] == 1);
+    HOLDS(t6963c_run_stopping(2, 1, 6, 0, r, sizeof r, memory, sizeof memory, rom, sizeof rom, reads, sizeof reads, 9, answers, 2, counts,
+                     T6963C_STOPPING_COUNTS_SIZE) == T6963C_NO_ANSWER_ROOM);
     HOLDS(counts[T6963C_PLACE] == 2 && counts[T6963C_TAKEN] == 2 && counts[T6963C_ANSWERS] == 2 && answers[1] == 0x63);
+    HOLDS(t6963c_run(2, 1, 6, 0, r, sizeof r, memory, sizeof memory, rom, sizeof rom, torn, sizeof torn, 9, answers, 2, skips, 4, counts,
+                     T6963C_COUNTS_SIZE) == T6963C_DONE && counts[T6963C_PLACE] == 0 && counts[T6963C_TAKEN] == 4);
+    HOLDS(counts[T6963C_ANSWERS] == 2 && counts[T6963C_SKIPPED] == 2 && skips[0] == T6963C_KIND && skips[1] == 0);
+    HOLDS(skips[2] == T6963C_FEW_DATA && skips[3] == 2);
+    HOLDS(t6963c_run(2, 1, 6, 0, r, sizeof r, memory, sizeof memory, rom, sizeof rom, torn, sizeof torn, 9, answers, 2, skips, 3, counts,
+                     T6963C_COUNTS_SIZE) == T6963C_NO_LIST_ROOM && counts[T6963C_PLACE] == 2 && counts[T6963C_TAKEN] == 2);
+    HOLDS(counts[T6963C_ANSWERS] == 1 && counts[T6963C_SKIPPED] == 1);
     HOLDS(T6963C_FRAME_SIZE(2, 1, 6) == 16 && T6963C_FRAME_SIZE(T6963C_COLUMNS_MAX, T6963C_DUAL_LINES_MAX, 8) == T6963C_FRAME_SIZE_MAX);
     /* row 2 of code 65 at its place in the ROM, the low six bits, the highest of them leftmost */
     t6963c_reset(r, sizeof r);
@@ -86,7 +94,7 @@ static unsigned paint(unsigned long lines, unsigned marker, unsigned long length
 static int halves(void)
 {
     static const unsigned char seen[] = {0, 1, 0, 0, 1, 0x43, 0, 0, 0, 0, 1, 0x24, 1, 0xE0, 3, 0, 1, 0xE8, 3, 0};
-    unsigned long counts[T6963C_COUNTS_SIZE];
+    unsigned long counts[T6963C_STOPPING_COUNTS_SIZE];
     unsigned char answers[2];
     t6963c_reset(r, sizeof r);
     HOLDS(paint(T6963C_LINES_MAX, T6963C_SINGLE, 128) == T6963C_DONE && paint(17, T6963C_SINGLE, 136) == T6963C_NOT_VALID);
@@ -103,8 +111,8 @@ static int halves(void)
     HOLDS(paint(8, T6963C_DUAL, 64) == T6963C_DONE && frame[8 * 4 + 7] == 0);
     HOLDS(paint(8, T6963C_SINGLE, 64) == T6963C_DONE && frame[8 * 4 + 7] == 0xFF);
     t6963c_reset(r, sizeof r);
-    HOLDS(t6963c_run(1, 2, 8, T6963C_DUAL, r, sizeof r, memory, sizeof memory, rom, sizeof rom, seen, sizeof seen, 99, answers, 2, counts,
-                     T6963C_COUNTS_SIZE) == T6963C_DONE && answers[0] == 0xA3 && answers[1] == 0xE3);
+    HOLDS(t6963c_run_stopping(1, 2, 8, T6963C_DUAL, r, sizeof r, memory, sizeof memory, rom, sizeof rom, seen, sizeof seen, 99, answers, 2, counts,
+                     T6963C_STOPPING_COUNTS_SIZE) == T6963C_DONE && answers[0] == 0xA3 && answers[1] == 0xE3);
     return 0;
 }
 

@@ -3,12 +3,14 @@
 # `front "$@"`.
 #   flags     its own options without a value, as `pbm off`; `--pbm` sets opt_pbm to yes. `--dual` is the marker of a panel in two halves,
 #             of which the program is told by a word
+#   letters   one-letter names of flags, as `k=keep`; `-k` then is `--keep`
 #   values    those with one, as `at rom`; `--at 5` and `--at=5` set opt_at to 5
 #   sample    what it shows where nothing else was given
 #   most      how many bytes of its input count, where that is limited
 #   program   the proved program that it runs
 # Its input then is the file $work/in, and `from` says in words where it is from. Status: 0 accepted, 1 refused, 2 trouble or misuse.
 flags=
+letters=
 values=
 most=
 opt_output=
@@ -119,6 +121,14 @@ read_words() {
             else
                 misused "there is no option '$word'"
             fi
+            ;;
+        -?)
+            option=
+            for letter in $letters; do
+                [ "${letter%%=*}" != "${word#-}" ] || option=${letter#*=}
+            done
+            [ -n "$option" ] || misused "there is no option '$word'"
+            eval "opt_$option=yes"
             ;;
         -?*) misused "there is no option '$word'" ;;
         *) operand "$word" ;;

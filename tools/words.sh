@@ -8,45 +8,74 @@ refuse_panel() {
         printf "refused: 1, the panel is not valid: columns %d (1 to 80), lines %d (%s), width %d (6 or 8)\n", $1, $2, fit, $3 }'
 }
 
+# What a pair is, and why it is refused, for awk.
+pair_words='
+    function named(k, b) {
+        if (k == 0) return sprintf("data %02X", b)
+        if (k == 1) return sprintf("command %02X", b)
+        if (k == 2) return "data read"
+        if (k == 3) return "status read"
+        if (k == 4) return "blink tick"
+        return sprintf("kind %d, byte %02X", k, b)
+    }
+    function reason(number, k) {
+        if (number == 3) return "a kind above 4"
+        if (number == 4) return "a command code that is not defined"
+        if (number == 5) return "a command other than B2H in auto " mode
+        if (number == 6) return "a command with fewer data than it needs"
+        if (number == 7) return k == 0 ? "data written in auto read" : "data read in auto write"
+        if (number == 13) return "an answer without room"
+        return "see docs/NUMBERS.md"
+    }
+    # follow: the auto mode behind a pair
+    function follow(k, b) {
+        if (k == 1 && b == 178) mode = ""
+        else if (k == 1 && mode == "") mode = b == 176 ? "write" : b == 177 ? "read" : ""
+    }
+    function refused(number, at, k, b) {
+        return sprintf("%d, %s: ", number, reason(number, k)) placed(at, k, b)
+    }
+    function placed(at, k, b) {
+        return sprintf("pair %d (byte %d): ", at, 3 + 2 * at) named(k, b)
+    }'
+
 # refuse_log NUMBER PLACE: of a file with C, L, w and pairs; with the three pairs before the one refused
 refuse_log() {
     case $1 in
     1) refuse_panel ;;
     8) echo "refused: 8, the log has an odd number of bytes: whole pairs: $2, then a byte alone (byte $((3 + 2 * $2)))" ;;
     *)
-        tail -c +4 "$work/in" | head -c $((2 * $2 + 2)) | od -An -v -tu1 | awk -v number="$1" -v place="$2" '
-            function pair(at) {
-                return sprintf("pair %d (byte %d): ", at, 3 + 2 * at) named(kind[at % 4], byte[at % 4])
-            }
-            function named(k, b) {
-                if (k == 0) return sprintf("data %02X", b)
-                if (k == 1) return sprintf("command %02X", b)
-                if (k == 2) return "data read"
-                if (k == 3) return "status read"
-                if (k == 4) return "blink tick"
-                return sprintf("kind %d, byte %02X", k, b)
-            }
-            # A command is the last one where auto is on: then it is B0H or B1H.
+        tail -c +4 "$work/in" | head -c $((2 * $2 + 2)) | od -An -v -tu1 | awk -v number="$1" -v place="$2" "$pair_words"'
             {
                 for (i = 1; i < NF; i += 2) {
-                    if (n > 0 && kind[(n - 1) % 4] == 1) last = byte[(n - 1) % 4]
+                    if (n > 0) follow(kind[(n - 1) % 4], byte[(n - 1) % 4])
                     kind[n % 4] = $i
                     byte[n % 4] = $(i + 1)
                     n++
                 }
             }
             END {
-                why["3"] = "a kind above 4"
-                why["4"] = "a command code that is not defined"
-                why["5"] = "a command other than B2H in auto " (last == 176 ? "write" : "read")
-                why["6"] = "a command with fewer data than it needs"
-                why["7"] = kind[place % 4] == 0 ? "data written in auto read" : "data read in auto write"
-                why["13"] = "an answer without room"
-                printf "refused: %d, %s: %s\n", number, number in why ? why[number] : "see docs/NUMBERS.md", pair(place)
-                for (at = place < 3 ? 0 : place - 3; at < place; at++) print "  before it: " pair(at)
+                print "refused: " refused(number, place, kind[place % 4], byte[place % 4])
+                for (at = place < 3 ? 0 : place - 3; at < place; at++) print "  before it: " placed(at, kind[at % 4], byte[at % 4])
             }'
         ;;
     esac
+}
+
+# skipped_log LIST: a line for every pair that the file LIST has, in lines `refusal N place P`, in the order of the log
+skipped_log() {
+    {
+        awk '{ print "refusal", $2, $4 }' "$1"
+        tail -c +4 "$work/in" | od -An -v -tu1
+    } | awk "$pair_words"'
+        $1 == "refusal" { number[++listed] = $2; place[listed] = $3; next }
+        told < listed {
+            for (i = 1; i < NF; i += 2) {
+                if (told < listed && place[told + 1] == n) print "skipped: " refused(number[++told], n, $i, $(i + 1))
+                follow($i, $(i + 1))
+                n++
+            }
+        }'
 }
 
 # refuse_book NUMBER PLACE: of a file with C, L, w, a screen's number and a book

@@ -94,19 +94,19 @@ pub(crate) fn count(number: u8, place: usize, taken: usize, answers: usize, coun
 pub(crate) fn count_on(
     number: u8,
     place: usize,
-    taken: usize,
+    pairs: usize,
     answers: usize,
     skipped: usize,
     counts: &mut [usize],
 )
     requires { ⌜ length (now counts) ≡ 4 ⌝ }
-    ensures { λ _. ⌜ now (counts .exit) ≡ countsOnOf number place taken answers skipped (now (counts .entry)) ⌝ }
+    ensures { λ _. ⌜ now (counts .exit) ≡ countsOnOf number place pairs answers skipped (now (counts .entry)) ⌝ }
 {
     if untouched(number) {
         return;
     }
     counts[0] = place;
-    counts[1] = taken;
+    counts[1] = pairs;
     counts[2] = answers;
     counts[3] = skipped;
 }

@@ -63,8 +63,8 @@ pub extern "C" fn t6963c_run(
     ensures { λ r. ⌜ runOnEnd r (now (registers .exit)) (now (memory .exit)) (now (answers .exit)) (now (skips .exit)) (now (counts .exit)) ≡ runOnBytes (panelOf columns lines width dual) (now (registers .entry)) (now (memory .entry)) (now (rom .entry)) (now (log .entry)) limit (now (answers .entry)) (now (skips .entry)) (now (counts .entry)) ⌝ }
 {
     let panel = marked(columns, lines, width, dual);
-    let counted = counts.len() == 4;
-    match enter(panel, counted, registers) {
+    let four = counts.len() == 4;
+    match enter(panel, four, registers) {
         Entry::State(state) => {
             let gone = run(panel, state, memory, rom, log, limit, answers, skips);
             let ran = gone.ran;

@@ -88,26 +88,35 @@ pub fn play(
 // The same by the ordinary run, with a list of its own for the pairs skipped, their places counted from the part's start.
 pub fn play_on(
     panel: Panel,
-    past: Ran,
+    heard: Ran,
     mem: &mut [u8],
     rom: &[u8],
     part: &[u8],
     answers: &mut [u8],
     skips: &mut [usize],
 ) -> PlayedOn
-    ensures { λ r. ⌜ playedOnAll r (now (mem .exit)) (now (answers .exit)) (now (skips .exit)) ≡ playOnOf panel past (now (mem .entry)) (now (rom .entry)) (now (part .entry)) (now (answers .entry)) (now (skips .entry)) ⌝ }
+    ensures { λ r. ⌜ playedOnAll r (now (mem .exit)) (now (answers .exit)) (now (skips .exit)) ≡ playOnOf panel heard (now (mem .entry)) (now (rom .entry)) (now (part .entry)) (now (answers .entry)) (now (skips .entry)) ⌝ }
 {
-    if past.number != 0 {
+    if heard.number != 0 {
         return PlayedOn {
-            ran: past,
+            ran: heard,
             given: 0,
             skipped: 0,
         };
     }
-    let registers = past.registers;
-    let gone = run(panel, registers, mem, rom, part, part.len() / 2, answers, skips);
+    let registers = heard.registers;
+    let gone = run(
+        panel,
+        registers,
+        mem,
+        rom,
+        part,
+        part.len() / 2,
+        answers,
+        skips,
+    );
     let ran = gone.ran;
-    let next = counted(past, ran);
+    let next = counted(heard, ran);
     PlayedOn {
         ran: next,
         given: ran.answers,

@@ -164,8 +164,8 @@ pub demand-3 : Demand3
 demand-3 p book number os room r mem rom answers skips limit bytes v whole fits valid size characters few =
     let e : writeOf p book number room ≡ wrote 0 0 (countOf p os) (sets room 0 (logOf (streamOf p os))) = write-fits p book number room v whole fits in
     let shown =
-        subst (λ (o : Wrote). Shows p os r mem rom answers (stoppingOf p r mem rom (take (2 * countOf p os) (o .room)) limit answers)) (sym e)
-        (bits p v book bytes number whole r mem rom valid size characters answers limit few room fits) in (
+    subst (λ (o : Wrote). Shows p os r mem rom answers (stoppingOf p r mem rom (take (2 * countOf p os) (o .room)) limit answers)) (sym e)
+    (bits p v book bytes number whole r mem rom valid size characters answers limit few room fits) in (
       ap (λ (o : Wrote). o .written) e,
       shown,
       shows-on p os r mem rom (take (2 * countOf p os) (writeOf p book number room .room)) answers skips limit shown,

@@ -87,7 +87,15 @@ fn go_on(panel: Panel, past: Ran, memory: &mut [u8], rom: &[u8]) -> Heard {
     let mut answers = [0u8; 32768];
     let mut skips = [0usize; 65536];
     let before = past.taken;
-    let played = play_on(panel, past, memory, rom, &part[..whole], &mut answers, &mut skips);
+    let played = play_on(
+        panel,
+        past,
+        memory,
+        rom,
+        &part[..whole],
+        &mut answers,
+        &mut skips,
+    );
     let mut out = [0u8; 98304];
     let lines = print_answers(played.given, &answers, &mut out);
     let written = io::write_all(STDOUT_FILENO, &out[..lines]);

@@ -11,7 +11,7 @@ untouched-requires c κs = search needs
 returns : tie.Need-returns
 returns c =
     let s = c .before .before .before .args in
-    counts-on-closed (s .number) (s .place) (s .taken) (s .answers) (s .skipped) (s .counts .now) (sym (c .before .untouched .ensures) ∙ c .if1 .taken)
+    counts-on-closed (s .number) (s .place) (s .pairs) (s .answers) (s .skipped) (s .counts .now) (sym (c .before .untouched .ensures) ∙ c .if1 .taken)
 
 slice-write-counts : tie.Need-slice-write-counts
 slice-write-counts c = search needs
@@ -31,7 +31,7 @@ same-length c = search needs
 returns-2 : tie.Need-returns-2
 returns-2 c =
     let s = c .before .before .before .args in
-    counts-on-open (s .number) (s .place) (s .taken) (s .answers) (s .skipped) (s .counts .now) (sym (c .before .untouched .ensures) ∙ c .if1 .left) (c .before .before .before .pre)
+    counts-on-open (s .number) (s .place) (s .pairs) (s .answers) (s .skipped) (s .counts .now) (sym (c .before .untouched .ensures) ∙ c .if1 .left) (c .before .before .before .pre)
 
 pub count-on-spec : {M : Type 1} → statement M
 count-on-spec =
