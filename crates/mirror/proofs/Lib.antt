@@ -1,0 +1,3 @@
+pub mod Orders
+pub mod Doors
+pub mod Claimed
