@@ -44,7 +44,7 @@ built() {
 # run_proved PROGRAM: on $work/in, with the marker. The programs that have a ROM of their own know it only behind `rom`.
 run_proved() {
     case $dual:$1 in
-    dual:draw | dual:rehearse | dual:layers)
+    dual:draw | dual:rehearse | dual:layers | dual:xbm)
         cat "$root/tests/bench.rom" "$work/in" >"$work/lent"
         run "$1" rom dual <"$work/lent"
         ;;

@@ -1,13 +1,15 @@
 // The xbm program: the log program's input in, its last frame as XBM out. Started with an argument it takes the character ROM before it,
-// with two the panel is in two halves. Started with the word `back` it takes a panel and a frame in XBM's order, and puts out its rows.
+// with two the panel is in two halves; a refusal's line is then on standard error. Started with the word `back` it takes a panel and a
+// frame in XBM's order, and puts out its rows.
 ghost use mathlib.Core.Path.{_≡_};
 ghost use Prim.Native.Nat.{_+_, _≤_};
 ghost use lib.ListN.{length};
 ghost use Rattle.io.specs.Counts.{Counts};
 use controller::run::Ran;
-use controller::run::run;
+use controller::run::run_stopping;
 use display::frame::paint;
 use ground::bytes::lesser;
+use libc::STDERR_FILENO;
 use libc::STDIN_FILENO;
 use libc::STDOUT_FILENO;
 use mirror::convert::convert;
@@ -143,10 +145,19 @@ fn fill_line(ran: Ran, out: &mut [u8]) -> usize
     print_line(ran.taken, ran.answers, ran.number, ran.place, out)
 }
 
-fn put_line(ran: Ran) -> bool {
+fn put_line(fd: i32, ran: Ran) -> bool {
     let mut line = [0u8; 112];
     let end = fill_line(ran, &mut line);
-    io::write_all(STDOUT_FILENO, &line[..end])
+    io::write_all(fd, &line[..end])
+}
+
+// A refusal behind which there is a frame, told to whoever gave a ROM.
+fn tell(ran: Ran) -> bool {
+    if (ran.number != 0) & (os::arg_count() > 1) {
+        put_line(STDERR_FILENO, ran)
+    } else {
+        true
+    }
 }
 
 // The frame after the run; on refusals 1 and 8 the line only.
@@ -156,7 +167,7 @@ fn show(rom: &[u8], input: &[u8]) -> Shown {
     let mut memory = empty_memory();
     let mut answers = [0u8; 8192];
     let registers = Registers::reset();
-    let ran = run(
+    let ran = run_stopping(
         panel,
         registers,
         &mut memory,
@@ -166,18 +177,19 @@ fn show(rom: &[u8], input: &[u8]) -> Shown {
         &mut answers,
     );
     if (ran.number == 1) | (ran.number == 8) {
-        let put = put_line(ran);
+        let put = put_line(STDOUT_FILENO, ran);
         return Shown {
             whole: put,
             number: ran.number,
         };
     }
+    let told = tell(ran);
     let after = ran.registers;
     let size = panel.frame_size();
     let mut frame = [0u8; 20480];
     let put = put_frame(panel, after, &memory, rom, &mut frame[..size]);
     Shown {
-        whole: put,
+        whole: told & put,
         number: ran.number,
     }
 }

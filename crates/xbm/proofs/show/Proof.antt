@@ -20,20 +20,23 @@ empty-memory-requires c κs = search needs
 reset-requires : tie.Need-reset-requires
 reset-requires c κs = search needs
 
-slice-aggregate-run : tie.Need-slice-aggregate-run
-slice-aggregate-run c = search needs
+slice-aggregate-run-stopping : tie.Need-slice-aggregate-run-stopping
+slice-aggregate-run-stopping c = search needs
 
-slice-aggregate-run-2 : tie.Need-slice-aggregate-run-2
-slice-aggregate-run-2 c = search needs
+slice-aggregate-run-stopping-2 : tie.Need-slice-aggregate-run-stopping-2
+slice-aggregate-run-stopping-2 c = search needs
 
-run-requires : tie.Need-run-requires
-run-requires c κs = search needs
+run-stopping-requires : tie.Need-run-stopping-requires
+run-stopping-requires c κs = search needs
 
 put-line-requires : tie.Need-put-line-requires
 put-line-requires c κs = search needs
 
 returns : tie.Need-returns
 returns c = search needs
+
+tell-requires : tie.Need-tell-requires
+tell-requires c κs = search needs
 
 frame-size-requires : tie.Need-frame-size-requires
 frame-size-requires c κs = search needs
@@ -62,11 +65,12 @@ show-spec =
     rest-in-requires
     empty-memory-requires
     reset-requires
-    slice-aggregate-run
-    slice-aggregate-run-2
-    run-requires
+    slice-aggregate-run-stopping
+    slice-aggregate-run-stopping-2
+    run-stopping-requires
     put-line-requires
     returns
+    tell-requires
     frame-size-requires
     slice-aggregate-put-frame
     array-borrow-prefix-frame
