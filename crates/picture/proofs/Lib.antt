@@ -1,4 +1,5 @@
 pub mod Storing
+pub mod Planes
 pub mod Places
 pub mod Cells
 pub mod Bodies

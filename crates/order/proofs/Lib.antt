@@ -1,0 +1,4 @@
+pub mod Rules
+pub mod Seeks
+pub mod Parts
+pub mod Commutes
