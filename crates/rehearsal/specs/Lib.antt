@@ -1,3 +1,4 @@
 pub mod Demand3
+pub mod Reorders
 pub mod Rehearsed
 pub mod BenchPoints
