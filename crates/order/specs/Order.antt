@@ -41,7 +41,7 @@ unlikeNumbers m n = not (eqb m n) && not (graphicNumber m && graphicNumber n)
 abbrev pub onePlane : ℕ → ℕ → Bool
 onePlane m n = (eqb m 1 && eqb n 1) || (graphicNumber m && graphicNumber n) || (eqb m 4 && eqb n 4)
 
--- the rule, in the request's words
+-- the rule in the words of the request
 pub data Free (p : Panel) (a b : Operation) : Type 0 where
   unlike : unlikeNumbers (operationNumber a) (operationNumber b) ≡ true → Free p a b
   apart : onePlane (operationNumber a) (operationNumber b) ≡ true

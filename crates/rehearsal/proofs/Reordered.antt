@@ -1,7 +1,7 @@
 -- Request 13 from the pictures of both orders and demand 3: what a stream leaves in memory is its picture's planes.
 use mathlib.Core.Path.{_≡_, sym, ap, _∙_}
 use mathlib.Core.Bool.{true}
-use mathlib.Core.List.{List, _∷_, _++_}
+use mathlib.Core.List.{List, [], _∷_, _++_}
 use Prim.Native.Nat.{ℕ, _+_, _*_, _≤_}
 use native.Mathlib.Omega.{arith}
 use Rattle.state.specs.declared.panel.Panel.{Panel}
@@ -27,8 +27,8 @@ reorders p one two m n os ps a b bytes others v whole second free =
       frame = λ rom phase. ap (λ (x : Picture). pictureFrame p rom x phase) same;
       count = pairs;
       memory = λ room another r mem rom answers unused limit fits fit valid size characters few.
-          demand-3 p one m (os ++ (a ∷ b ∷ ps)) room r mem rom answers limit bytes v whole fits valid size characters few .1 .memory
+          demand-3 p one m (os ++ (a ∷ b ∷ ps)) room r mem rom answers [] limit bytes v whole fits valid size characters few .1 .memory
           ∙ ap (holding p mem) same
           ∙ sym
-          (demand-3 p two n (os ++ (b ∷ a ∷ ps)) another r mem rom unused limit others v second (omega (arith, pairs)) valid size characters (omega (arith, pairs)) .1 .memory);
+          (demand-3 p two n (os ++ (b ∷ a ∷ ps)) another r mem rom unused [] limit others v second (omega (arith, pairs)) valid size characters (omega (arith, pairs)) .1 .memory);
     }

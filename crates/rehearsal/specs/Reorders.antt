@@ -7,7 +7,7 @@ use lib.ListN.{length, getD, take}
 use Rattle.state.specs.declared.panel.Panel.{Panel}
 use Rattle.state.specs.declared.registers.Registers.{Registers}
 use Rattle.state.specs.State.{validPanel, validRegisters}
-use Rattle.controller.specs.Run.{runOf}
+use Rattle.controller.specs.Run.{stoppingOf}
 use Rattle.book.specs.Operation.{Operation}
 use Rattle.book.specs.Screen.{screen, screenOf}
 use Rattle.order.specs.Order.{Free}
@@ -18,7 +18,7 @@ use Rattle.picture.specs.Picture.{pictureOf, pictureFrame}
 -- the bytes in all memory after the written stream of a screen, run from these registers and this memory
 abbrev pub memoryAfter : Panel → List ℕ → ℕ → List Operation → List ℕ → Registers → List ℕ → List ℕ → ℕ → List ℕ → List ℕ
 memoryAfter p book number os room r mem rom limit answers =
-    runOf p r mem rom (take (2 * countOf p os) (writeOf p book number room .room)) limit answers .memory
+    stoppingOf p r mem rom (take (2 * countOf p os) (writeOf p book number room .room)) limit answers .memory
 
 -- screens of two books: one picture, as many pairs, and on one controller the same 65,536 bytes, whatever rooms and buffers are lent
 pub record Unseen (p : Panel) (one two : List ℕ) (m n : ℕ) (os qs : List Operation) : Type 0 where
