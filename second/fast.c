@@ -500,6 +500,6 @@ struct second_run_reply fast_run(const struct second_panel *panel, struct second
     r->older = b.data & 255, r->newest = b.data >> 8, r->error = b.status >> 6 & 1;
     r->phase = b.status & NORMAL ? SECOND_PHASE_NORMAL : SECOND_PHASE_OFF;
     const unsigned long all = (unsigned long)(b.at - log) / 2;
-    const struct second_run_reply reply = {b.number, b.number ? all : 0, all, (unsigned long)(b.answer - answers)};
+    const struct second_run_reply reply = {b.number, b.number ? all : 0, all, (unsigned long)(b.answer - answers), 0};
     return reply;
 }
