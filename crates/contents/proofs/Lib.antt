@@ -1,3 +1,6 @@
 pub mod Asking
-pub mod Judging
+pub mod Entries
 pub mod Numbers
+pub mod Opening
+pub mod Soundness
+pub mod Spanning

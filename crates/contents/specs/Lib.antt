@@ -1,5 +1,5 @@
 pub mod Contents
-pub mod Entry
 pub mod Inside
+pub mod Spans
 pub mod Asked
 pub mod Numbers

@@ -1,0 +1,6 @@
+pub mod Laying
+pub mod Layouts
+pub mod Moving
+pub mod Puts
+pub mod Sums
+pub mod Trips

@@ -1,0 +1,4 @@
+pub mod Laid
+pub mod Moved
+pub mod Ready
+pub mod Trips
