@@ -11,7 +11,8 @@
 
 enum contents_damage {
     CONTENTS_RIGHT, OFFSET_WRONG, LENGTH_WRONG, PAST_END, END_LOST, LAST_SHORT, CONTENTS_CUT,
-    NO_SCREENS, TOO_MANY_SCREENS, OTHER_COUNT, EMPTY_BOOK, TOO_LONG, CONTENTS_DAMAGES
+    NO_SCREENS, TOO_MANY_SCREENS, OTHER_COUNT, EMPTY_BOOK, TOO_LONG, CONTENTS_DAMAGES,
+    IDENTITY_WRONG = CONTENTS_DAMAGES, FORM_TWO_DAMAGES
 };
 
 /* No call below has two drawing arguments: C leaves open which would draw first. */
@@ -21,8 +22,10 @@ struct maker {
     unsigned char *book;
     unsigned long length; /* bytes written */
     unsigned columns, lines, width, dual;
+    unsigned form;
     unsigned screens, asked;
-    unsigned long begin[MOST_SCREENS + 4], end[MOST_SCREENS + 4]; /* of each body; some books have too many */
+    unsigned identity[MOST_SCREENS + 4]; /* of each screen, its index in form one; some books have too many */
+    unsigned long begin[MOST_SCREENS + 4], end[MOST_SCREENS + 4]; /* of each body */
     unsigned long pairs; /* of the body being written */
 };
 
@@ -344,9 +347,39 @@ static void word(struct maker *m, unsigned long place, unsigned long value)
     m->book[place + 1] = (unsigned char)(value / 256);
 }
 
-static unsigned long entry_place(unsigned screen)
+static unsigned long entry_place(const struct maker *m, unsigned screen)
 {
-    return 1 + 4UL * screen;
+    return m->form == 2 ? 2 + 6UL * screen : 1 + 4UL * screen;
+}
+
+static unsigned long offset_place(const struct maker *m, unsigned screen)
+{
+    return entry_place(m, screen) + (m->form == 2 ? 2 : 0);
+}
+
+static unsigned long length_place(const struct maker *m, unsigned screen)
+{
+    return offset_place(m, screen) + 2;
+}
+
+/* The byte that holds n. */
+static unsigned char *count(struct maker *m)
+{
+    return &m->book[m->form - 1];
+}
+
+/* Rising, and up to the asked one small enough for a byte; one book in three has those of a move up. */
+static void choose_identities(struct maker *m)
+{
+    int indices = m->form == 1 || one_in(m, 3);
+    unsigned value = 0, screen;
+    if (!indices) value = below(m, 3);
+    for (screen = 0; screen < m->screens; screen++) {
+        m->identity[screen] = value;
+        value += 1;
+        if (!indices) value += below(m, 3);
+        if (!indices && screen >= m->asked && one_in(m, 3)) value += below(m, 900);
+    }
 }
 
 /* Contents and bodies, the last one up to full bytes if full is not 0; the bad operation's place, or 0. */
@@ -354,8 +387,9 @@ static unsigned long write_book(struct maker *m, int asked_bad, int others_bad, 
 {
     unsigned long place = 0, asked_pairs = 0;
     unsigned screen;
-    m->book[0] = (unsigned char)m->screens;
-    m->length = entry_place(m->screens);
+    m->book[0] = 0; /* stands in form two */
+    *count(m) = (unsigned char)m->screens;
+    m->length = entry_place(m, m->screens);
     for (screen = 0; screen < m->screens; screen++) {
         int asked = screen == m->asked;
         m->begin[screen] = m->length;
@@ -366,8 +400,9 @@ static unsigned long write_book(struct maker *m, int asked_bad, int others_bad, 
         if (screen == m->screens - 1 && full != 0) fill_up(m, full);
         if (asked) asked_pairs = m->pairs;
         m->end[screen] = m->length;
-        word(m, entry_place(screen), m->begin[screen]);
-        word(m, entry_place(screen) + 2, m->end[screen] - m->begin[screen]);
+        if (m->form == 2) word(m, entry_place(m, screen), m->identity[screen]);
+        word(m, offset_place(m, screen), m->begin[screen]);
+        word(m, length_place(m, screen), m->end[screen] - m->begin[screen]);
     }
     m->pairs = asked_pairs;
     return place;
@@ -385,8 +420,8 @@ static unsigned long spoil_offset(struct maker *m)
     case 2: wrong = (right + 256UL * (1 + below(m, 255))) % 65536; break;
     default: break;
     }
-    word(m, entry_place(screen), wrong);
-    return entry_place(screen);
+    word(m, offset_place(m, screen), wrong);
+    return entry_place(m, screen);
 }
 
 /* One body longer or shorter by one: the next does not begin where it ends. */
@@ -396,26 +431,26 @@ static unsigned long spoil_length(struct maker *m)
     unsigned long length = m->end[screen] - m->begin[screen];
     int last = screen == m->screens - 1;
     if (length > 0 && one_in(m, 2)) {
-        word(m, entry_place(screen) + 2, length - 1);
-        return entry_place(last ? screen : screen + 1);
+        word(m, length_place(m, screen), length - 1);
+        return entry_place(m, last ? screen : screen + 1);
     }
-    word(m, entry_place(screen) + 2, length + 1);
-    return entry_place(m->end[screen] == m->length ? screen : screen + 1);
+    word(m, length_place(m, screen), length + 1);
+    return entry_place(m, m->end[screen] == m->length ? screen : screen + 1);
 }
 
 static unsigned long spoil_past_end(struct maker *m)
 {
     unsigned screen = spot(m, m->screens);
     unsigned long least = m->length - m->begin[screen] + 1;
-    word(m, entry_place(screen) + 2, one_in(m, 3) ? 65535 : least);
-    return entry_place(screen);
+    word(m, length_place(m, screen), one_in(m, 3) ? 65535 : least);
+    return entry_place(m, screen);
 }
 
 static unsigned long add_bytes(struct maker *m)
 {
     unsigned count;
     for (count = 1 + spot(m, 6); count > 0; count--) byte(m, below(m, 256));
-    return entry_place(m->screens - 1);
+    return entry_place(m, m->screens - 1);
 }
 
 /* Bytes of the bodies are lost at the book's end. */
@@ -426,26 +461,49 @@ static unsigned long lose_end(struct maker *m)
     if (bodies == 0) return add_bytes(m);
     m->length -= 1 + (one_in(m, 2) ? 0 : below(m, (unsigned)bodies));
     for (screen = 0; m->end[screen] <= m->length; screen++) continue;
-    return entry_place(screen);
+    return entry_place(m, screen);
 }
 
 /* Place 0 even where an entry before the cut is wrong. */
 static unsigned long cut_contents(struct maker *m)
 {
     if (one_in(m, 2)) spoil_offset(m);
-    m->length = 1 + spot(m, 4 * m->screens);
+    m->length = 1 + spot(m, (unsigned)entry_place(m, m->screens) - 1);
     return 0;
 }
 
 static unsigned long other_count(struct maker *m)
 {
     if (m->screens > 1 && one_in(m, 2)) {
-        m->book[0]--;
-        return 1;
+        (*count(m))--;
+        return entry_place(m, 0);
     }
     if (m->screens == MOST_SCREENS) return spoil_offset(m);
-    m->book[0]++;
-    return m->length < entry_place(m->screens + 1) ? 0 : 1;
+    (*count(m))++;
+    return m->length < entry_place(m, m->screens + 1) ? 0 : entry_place(m, 0);
+}
+
+/* No screens: in form one a first byte 0 is form two's, so that its n is 0 too. */
+static unsigned long no_screens(struct maker *m)
+{
+    m->book[0] = m->book[1] = 0;
+    return 0;
+}
+
+/* The same identity as the last entry's, or a lower one. */
+static unsigned long spoil_identity(struct maker *m)
+{
+    unsigned screen;
+    if (m->form == 1 || m->screens == 1) return spoil_offset(m);
+    screen = 1 + spot(m, m->screens - 1);
+    word(m, entry_place(m, screen), one_in(m, 2) ? m->identity[screen - 1] : below(m, m->identity[screen - 1] + 1));
+    return entry_place(m, screen);
+}
+
+static unsigned choose_damage(struct maker *m)
+{
+    if (m->form == 1) return 1 + below(m, CONTENTS_DAMAGES - 1);
+    return one_in(m, 6) ? IDENTITY_WRONG : 1 + below(m, FORM_TWO_DAMAGES - 1);
 }
 
 static unsigned long damage_contents(struct maker *m, unsigned damage)
@@ -457,11 +515,12 @@ static unsigned long damage_contents(struct maker *m, unsigned damage)
     case END_LOST: return lose_end(m);
     case LAST_SHORT: return add_bytes(m);
     case CONTENTS_CUT: return cut_contents(m);
-    case NO_SCREENS: m->book[0] = 0; return 0;
+    case NO_SCREENS: return no_screens(m);
     case TOO_MANY_SCREENS:
-        if (one_in(m, 2)) m->book[0] = past(m, MOST_SCREENS + 1); /* else right but for its number */
+        if (one_in(m, 2)) *count(m) = past(m, MOST_SCREENS + 1); /* else right but for its number */
         return 0;
     case OTHER_COUNT: return other_count(m);
+    case IDENTITY_WRONG: return spoil_identity(m);
     case EMPTY_BOOK: m->length = 0; return 0;
     default: return 0; /* too long as it was written */
     }
@@ -537,15 +596,26 @@ static void spoil_panel(struct maker *m, unsigned char *panel)
 /* Fewer bytes than the head has; every missing one counts as 0. */
 static struct generate_book_reply short_input(struct maker *m)
 {
-    struct generate_book_reply reply = {0, 0, 0, 0};
+    struct generate_book_reply reply = {0, 0, 0, 0, 0, 0, 0};
     reply.length = below(m, (unsigned)GENERATE_BOOK_HEAD);
     reply.number = reply.length < 3 ? 1 : 9;
     return reply;
 }
 
-static struct generate_book_reply make_book(unsigned long long seed, unsigned dual, unsigned char *buffer)
+/* A number or identity below 256 that no screen has. */
+static unsigned absent(struct maker *m)
 {
-    struct generate_book_reply reply = {0, 0, 0, 0};
+    for (;;) {
+        unsigned number = m->form == 1 ? m->screens + below(m, 256 - m->screens) : below(m, 256), screen;
+        for (screen = 0; screen < m->screens && m->identity[screen] != number; screen++) continue;
+        if (screen == m->screens) return number;
+    }
+}
+
+struct generate_book_reply generate_book_for(unsigned long long seed, unsigned dual, unsigned form,
+                                             unsigned char *buffer)
+{
+    struct generate_book_reply reply = {0, 0, 0, 0, 0, 0, 0};
     struct maker maker;
     struct maker *m = &maker;
     int panel_bad = 0, number_bad = 0, operation_bad = 0, others_bad;
@@ -554,6 +624,7 @@ static struct generate_book_reply make_book(unsigned long long seed, unsigned du
     m->random.word = seed;
     m->book = buffer + GENERATE_BOOK_HEAD;
     m->dual = dual;
+    m->form = form;
     if (dual) choose_dual_panel(m);
     else choose_panel(m);
     m->screens = choose_screens(m);
@@ -566,7 +637,7 @@ static struct generate_book_reply make_book(unsigned long long seed, unsigned du
     if (one_in(m, 2)) {
         unsigned first = below(m, 20);
         panel_bad = first == 0;
-        if ((first >= 1 && first <= 9) || (first < 1 && one_in(m, 4))) damage = 1 + below(m, CONTENTS_DAMAGES - 1);
+        if ((first >= 1 && first <= 9) || (first < 1 && one_in(m, 4))) damage = choose_damage(m);
         number_bad = first == 10 || first == 11 || (first < 10 && one_in(m, 4));
         operation_bad = first >= 12 || one_in(m, 4);
     }
@@ -576,14 +647,18 @@ static struct generate_book_reply make_book(unsigned long long seed, unsigned du
     else if (damage == CONTENTS_RIGHT && !operation_bad && one_in(m, 40)) full = GENERATE_BOOK_LIMIT;
 
     m->asked = spot(m, m->screens);
+    choose_identities(m);
     operation_place = write_book(m, operation_bad, others_bad, full);
     contents_place = damage_contents(m, damage);
-    number = m->asked;
-    if (number_bad) number = one_in(m, 2) ? m->screens : m->screens + below(m, 256 - m->screens);
+    number = m->identity[m->asked];
+    if (number_bad) number = form == 1 && one_in(m, 2) ? m->screens : absent(m);
     buffer[3] = (unsigned char)number;
     if (panel_bad) spoil_panel(m, buffer);
 
     reply.length = GENERATE_BOOK_HEAD + m->length;
+    reply.begin = m->begin[m->asked];
+    reply.end = m->end[m->asked];
+    reply.screens = m->screens;
     if (panel_bad) {
         reply.number = 1;
     } else if (damage != CONTENTS_RIGHT) {
@@ -602,10 +677,5 @@ static struct generate_book_reply make_book(unsigned long long seed, unsigned du
 
 struct generate_book_reply generate_book(unsigned long long seed, unsigned char *buffer)
 {
-    return make_book(seed, 0, buffer);
-}
-
-struct generate_book_reply generate_dual_book(unsigned long long seed, unsigned char *buffer)
-{
-    return make_book(seed, 1, buffer);
+    return generate_book_for(seed, 0, 1, buffer);
 }

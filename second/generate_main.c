@@ -1,4 +1,4 @@
-/* generate [dual] [log|write|normal|off] SEED: the input of that seed for a program, on standard output. */
+/* generate [dual] [log|write|normal|off|write-two|normal-two|off-two] SEED: the input of that seed for a program, on standard output. */
 #include <errno.h>
 #include <stdio.h>
 #include <stdlib.h>
@@ -9,9 +9,10 @@
 
 static int usage(void)
 {
-    fputs("usage: generate [dual] [log|write|normal|off] SEED (a number from 0 to 18446744073709551615)\n"
-          "  an input for log, for write, or for picture in phase normal or off; for log if none is named;\n"
-          "  with dual for a panel in two halves, of which the program must be told\n", stderr);
+    fputs("usage: generate [dual] [log|write|normal|off|write-two|normal-two|off-two] SEED\n"
+          "  (a number from 0 to 18446744073709551615): an input for log, for write, or for picture in phase normal or\n"
+          "  off, with -two of a book in form two; for log if none is named; with dual for a panel in two halves, of\n"
+          "  which the program must be told\n", stderr);
     return 2;
 }
 
@@ -29,13 +30,13 @@ int main(int argc, char **argv)
     static unsigned char buffer[GENERATE_BOOK_ROOM + 1]; /* the phase too; a log needs less */
     const char *kind = "log", *number;
     unsigned long (*make_log)(unsigned long long seed, unsigned char *buffer) = generate_input;
-    struct generate_book_reply (*make_book)(unsigned long long seed, unsigned char *buffer) = generate_book;
     unsigned long long seed;
     unsigned long length;
+    unsigned dual = 0;
     char *end;
     if (argc > 1 && strcmp(argv[1], "dual") == 0) {
         make_log = generate_dual_input;
-        make_book = generate_dual_book;
+        dual = 1;
         argc--;
         argv++;
     }
@@ -49,11 +50,17 @@ int main(int argc, char **argv)
         fprintf(stderr, "generate: %s is no seed from 0 to 18446744073709551615\n", number);
         return 2;
     }
-    if (strcmp(kind, "log") == 0) length = make_log(seed, buffer);
-    else if (strcmp(kind, "write") == 0) length = make_book(seed, buffer).length;
-    else if (strcmp(kind, "normal") == 0) length = insert_phase(buffer, make_book(seed, buffer).length, 1);
-    else if (strcmp(kind, "off") == 0) length = insert_phase(buffer, make_book(seed, buffer).length, 0);
-    else return usage();
+    if (strcmp(kind, "log") == 0) {
+        length = make_log(seed, buffer);
+    } else {
+        const char *two = strstr(kind, "-two");
+        unsigned form = two != NULL && strcmp(two, "-two") == 0 ? 2 : 1;
+        size_t name = form == 2 ? (size_t)(two - kind) : strlen(kind);
+        length = generate_book_for(seed, dual, form, buffer).length;
+        if (name == 6 && strncmp(kind, "normal", 6) == 0) length = insert_phase(buffer, length, 1);
+        else if (name == 3 && strncmp(kind, "off", 3) == 0) length = insert_phase(buffer, length, 0);
+        else if (name != 5 || strncmp(kind, "write", 5) != 0) return usage();
+    }
     if (fwrite(buffer, 1, length, stdout) != length || fflush(stdout) != 0) {
         fputs("generate: standard output cannot be written\n", stderr);
         return 1;

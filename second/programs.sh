@@ -41,14 +41,33 @@ built() {
     [ -x "$root/target/bin/$1" ] || fail "target/bin/$1 is missing: 'rt check $1' builds it"
 }
 
+# widened PROGRAM: $work/in as the proved program has it: a screen's number is one byte in the second ones, and two there; with `lift` set
+# identities are 256 higher
+lift=
+widened() {
+    case $1 in
+    write | draw | rehearse)
+        if [ -n "$lift" ]; then
+            "$work/lift" <"$work/in"
+        elif [ "$(wc -c <"$work/in")" -lt 4 ]; then
+            cat "$work/in"
+        else
+            head -c 4 "$work/in" && printf '\000' && tail -c +5 "$work/in"
+        fi
+        ;;
+    *) cat "$work/in" ;;
+    esac
+}
+
 # run_proved PROGRAM: on $work/in, with the marker. The programs that have a ROM of their own know it only behind `rom`.
 run_proved() {
+    widened "$1" >"$work/wide"
     case $dual:$1 in
     dual:draw | dual:rehearse | dual:layers | dual:xbm)
-        cat "$root/tests/bench.rom" "$work/in" >"$work/lent"
+        cat "$root/tests/bench.rom" "$work/wide" >"$work/lent"
         run "$1" rom dual <"$work/lent"
         ;;
-    *) run "$1" ${dual:+dual} ${keep:+keep going} <"$work/in" ;;
+    *) run "$1" ${dual:+dual} ${keep:+keep going} <"$work/wide" ;;
     esac
 }
 

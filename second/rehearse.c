@@ -1,5 +1,5 @@
 /* rehearse SEEDS: the books of seeds 1 to SEEDS written, run on the controller and drawn; every seed gives one for a single
-   and one for a dual panel. One line per property, ok or not ok. */
+   and one for a dual panel, and two in three one in form two. One line per property, ok or not ok. */
 #include <limits.h>
 #include <stdio.h>
 #include <stdlib.h>
@@ -26,6 +26,7 @@ static struct {
 static struct {
     unsigned long numbers[14], place_0, later_entry, widths[9], operations[7];
     unsigned long large, empty, limit, too_long, many_screens, short_inputs, large_streams, phases_differ, order_shows;
+    unsigned long form_two, high_identity;
     unsigned long books, dual, dual_large, cursor_rows[2]; /* rows in the upper and lower half that a cursor covers */
 } seen;
 
@@ -228,13 +229,13 @@ static void turn_round(unsigned long begin, unsigned long end)
     free(turned);
 }
 
-static void rehearse_right(struct generate_random *random, unsigned long long seed, unsigned long pairs)
+static void rehearse_right(struct generate_random *random, unsigned long long seed,
+                           const struct generate_book_reply *made)
 {
+    unsigned long pairs = made->pairs, length = made->end - made->begin;
     unsigned long tail = generate_below(random, 4);
     unsigned char *scarce = lend(2 * pairs - 1);
     unsigned char *room = lend(2 * pairs + tail);
-    const unsigned char *entry = lent.book + 1 + 4 * lent.screen;
-    unsigned long begin = entry[0] + 256UL * entry[1], length = entry[2] + 256UL * entry[3];
     struct second_write_reply reply = write_into(scarce, 2 * pairs - 1);
     expect(&holds.writer_replies, reply.number == 12 && reply.place == pairs && reply.pairs == 0, seed,
            "a room one byte short is not refused by 12");
@@ -245,7 +246,7 @@ static void rehearse_right(struct generate_random *random, unsigned long long se
     expect(&holds.room, untouched(room + 2 * pairs, tail), seed, "the room's rest is changed");
     rehearse_run(random, seed, room, pairs);
 
-    turn_round(begin, begin + length);
+    turn_round(made->begin, made->end);
     draw(1);
     if (memcmp(lent.frame, last_frame, lent.frame_length) != 0) seen.order_shows++;
     seen.widths[lent.panel.width]++;
@@ -254,7 +255,9 @@ static void rehearse_right(struct generate_random *random, unsigned long long se
     if (lent.panel.dual) seen.dual++;
     if (length == 0) seen.empty++;
     if (lent.book_length == GENERATE_BOOK_LIMIT) seen.limit++;
-    if (lent.book[0] == 64) seen.many_screens++;
+    if (made->screens == 64) seen.many_screens++;
+    if (lent.book[0] == 0) seen.form_two++;
+    if (lent.screen >= made->screens) seen.high_identity++;
     if (2 * pairs > GENERATE_LOG_LIMIT) seen.large_streams++;
     free(scarce);
     free(room);
@@ -288,12 +291,12 @@ static void rehearse_damaged(unsigned long long seed, unsigned number, unsigned 
     if (lent.book_length > GENERATE_BOOK_LIMIT) seen.too_long++;
 }
 
-static void rehearse(unsigned long long seed, unsigned dual)
+static void rehearse(unsigned long long seed, unsigned dual, unsigned form)
 {
     struct generate_book_reply made, repeated;
     struct generate_random random;
-    made = dual ? generate_dual_book(seed, input) : generate_book(seed, input);
-    repeated = dual ? generate_dual_book(seed, again) : generate_book(seed, again);
+    made = generate_book_for(seed, dual, form, input);
+    repeated = generate_book_for(seed, dual, form, again);
     seen.books++;
     expect(&holds.repeats, repeated.length == made.length && memcmp(input, again, made.length) == 0, seed,
            "other bytes the second time");
@@ -304,7 +307,7 @@ static void rehearse(unsigned long long seed, unsigned dual)
     random.word = ~seed;
     lend_all(&random, made.length, dual);
     seen.numbers[made.number]++;
-    if (made.number == 0) rehearse_right(&random, seed, made.pairs);
+    if (made.number == 0) rehearse_right(&random, seed, &made);
     else rehearse_damaged(seed, made.number, made.place);
     give_back();
 }
@@ -314,8 +317,10 @@ int main(int argc, char **argv)
     unsigned long long seed, seeds = argc == 2 ? strtoull(argv[1], NULL, 10) : 1000;
     unsigned code, operations = 0;
     for (seed = 1; seed <= seeds; seed++) {
-        rehearse(seed, 0);
-        rehearse(seed, 1);
+        rehearse(seed, 0, 1);
+        rehearse(seed, 1, 1);
+        if (seed % 3 == 1) rehearse(seed, 0, 2);
+        if (seed % 3 == 2) rehearse(seed, 1, 2);
     }
     for (code = 1; code <= 6; code++) {
         if (seen.operations[code] > seeds) operations++;
@@ -348,6 +353,8 @@ int main(int argc, char **argv)
     property("streams longer than the log program's limit, and mostly shorter ones",
              seen.large_streams > 0 && 2 * seen.large_streams < seen.numbers[0]);
     property("right books for dual panels, also the full one", seen.dual > seeds / 3 && seen.dual_large > 0);
+    property("right books in form two, and screens in them that no number asks for",
+             seen.form_two > seeds / 5 && seen.high_identity > seeds / 50);
     property("cursors in both halves", seen.cursor_rows[0] > seeds / 50 && seen.cursor_rows[1] > seeds / 50);
     property("pictures that differ between the phases", seen.phases_differ > seeds / 50);
     property("pictures that show the operations' order", seen.order_shows > seeds / 8);

@@ -18,39 +18,73 @@ unsigned long second_text_length(const struct second_panel *panel)
 
 /* The book and its contents. */
 
-static unsigned long word_at(const unsigned char *book, unsigned long place)
+static unsigned long word_at(const unsigned char *bytes, unsigned long place)
 {
-    return book[place] + 256UL * book[place + 1];
+    return bytes[place] + 256UL * bytes[place + 1];
 }
 
-static unsigned long entry_place(unsigned long screen)
+/* Entries of offset and length begin behind n; those of identity, offset and length behind 0 and n. */
+unsigned long second_entry_place(unsigned form, unsigned long index)
 {
-    return 1 + 4 * screen;
+    return form == 2 ? 2 + 6 * index : 1 + 4 * index;
 }
 
-/* 0 or 9, and its place. */
-static unsigned contents_number(const unsigned char *book, unsigned long book_length, unsigned long *place)
+unsigned long second_book_identity(const struct second_book *book, unsigned long index)
 {
-    unsigned long n, screen, begin;
+    return book->form == 2 ? word_at(book->bytes, second_entry_place(2, index)) : index;
+}
+
+struct second_body second_book_body(const struct second_book *book, unsigned long index)
+{
+    struct second_body body;
+    unsigned long place = second_entry_place(book->form, index);
+    if (book->form == 2) place += 2;
+    body.begin = word_at(book->bytes, place);
+    body.end = body.begin + word_at(book->bytes, place + 2);
+    return body;
+}
+
+/* Is the entry wrong, where the last body ended at begin? */
+static int entry_wrong(const struct second_book *book, unsigned long index, unsigned long begin)
+{
+    struct second_body body = second_book_body(book, index);
+    if (index > 0 && second_book_identity(book, index) <= second_book_identity(book, index - 1)) return 1;
+    if (body.begin != begin || body.end > book->length) return 1;
+    return index == book->screens - 1 && body.end < book->length;
+}
+
+unsigned second_book_open(const unsigned char *bytes, unsigned long length, struct second_book *book,
+                          unsigned long *place)
+{
+    unsigned long index, begin;
     *place = 0;
-    if (book_length < 1 || book_length > SECOND_BOOK_LIMIT) return 9;
-    n = book[0];
-    if (n < 1 || n > 64) return 9;
-    if (book_length < 1 + 4 * n) return 9;
-
-    begin = 1 + 4 * n;
-    for (screen = 0; screen < n; screen++) {
-        unsigned long offset = word_at(book, entry_place(screen));
-        unsigned long length = word_at(book, entry_place(screen) + 2);
-        unsigned long end = offset + length;
-        *place = entry_place(screen);
-        if (offset != begin) return 9;
-        if (end > book_length) return 9;
-        if (screen == n - 1 && end < book_length) return 9;
-        begin = end;
+    if (length < 1 || length > SECOND_BOOK_LIMIT) return 9;
+    book->bytes = bytes;
+    book->length = length;
+    book->form = bytes[0] == 0 ? 2 : 1;
+    if (length < book->form) return 9;
+    book->screens = bytes[book->form - 1];
+    if (book->screens < 1 || book->screens > SECOND_MOST_SCREENS) return 9;
+    begin = second_entry_place(book->form, book->screens);
+    if (length < begin) return 9;
+    for (index = 0; index < book->screens; index++) {
+        if (entry_wrong(book, index, begin)) {
+            *place = second_entry_place(book->form, index);
+            return 9;
+        }
+        begin = second_book_body(book, index).end;
     }
-    *place = 0;
     return 0;
+}
+
+/* The index of the screen asked for, by number or by identity; n if there is none. */
+static unsigned long find_screen(const struct second_book *book, unsigned long screen)
+{
+    unsigned long index;
+    for (index = 0; index < book->screens; index++) {
+        if (second_book_identity(book, index) == screen) return index;
+    }
+    return book->screens;
 }
 
 /* Operations. */
@@ -114,13 +148,15 @@ static int in_range(const struct second_panel *panel, const unsigned char *opera
     }
 }
 
-/* Neither unknown nor cut nor out of range; left is at least 1, the bytes up to the body's end. */
-static int operation_right(const struct second_panel *panel, const unsigned char *operation, unsigned long left)
+unsigned long second_operation_length(const struct second_panel *panel, const struct second_book *book,
+                                      struct second_body body, unsigned long at)
 {
+    const unsigned char *operation = book->bytes + at;
+    unsigned long left = body.end - at;
     unsigned long fixed = fixed_length(operation[0]);
     if (fixed == 0 || fixed > left) return 0;
     if (whole_length(operation) > left) return 0;
-    return in_range(panel, operation);
+    return in_range(panel, operation) ? whole_length(operation) : 0;
 }
 
 static unsigned long operation_pairs(const unsigned char *operation)
@@ -135,29 +171,41 @@ static unsigned long operation_pairs(const unsigned char *operation)
     }
 }
 
-/* A screen's body, from begin up to but without end, and the pairs of its operations. */
-struct body {
-    unsigned long begin, end, pairs;
-};
+/* A body's first operation that is unknown, cut or out of range, or the body's end. */
+static unsigned long first_wrong(const struct second_panel *panel, const struct second_book *book,
+                                 struct second_body body)
+{
+    unsigned long at = body.begin;
+    while (at < body.end) {
+        unsigned long length = second_operation_length(panel, book, body, at);
+        if (length == 0) return at;
+        at += length;
+    }
+    return body.end;
+}
 
 /* 0, 9, 10 or 11, and its place; the body only with 0. */
-static unsigned screen_number(const struct second_panel *panel, const unsigned char *book, unsigned long book_length,
-                              unsigned long screen, struct body *body, unsigned long *place)
+static unsigned screen_number(const struct second_panel *panel, const unsigned char *bytes, unsigned long length,
+                              unsigned long screen, struct second_body *body, unsigned long *place)
 {
-    unsigned long at;
-    if (contents_number(book, book_length, place) != 0) return 9;
-    if (screen >= book[0]) return 10;
-    body->begin = word_at(book, entry_place(screen));
-    body->end = body->begin + word_at(book, entry_place(screen) + 2);
-    body->pairs = 0;
-    for (at = body->begin; at < body->end; at += whole_length(book + at)) {
-        if (!operation_right(panel, book + at, body->end - at)) {
-            *place = at;
-            return 11;
-        }
-        body->pairs += operation_pairs(book + at);
-    }
-    return 0;
+    struct second_book book;
+    unsigned long index, wrong;
+    if (second_book_open(bytes, length, &book, place) != 0) return 9;
+    index = find_screen(&book, screen);
+    if (index == book.screens) return 10;
+    *body = second_book_body(&book, index);
+    wrong = first_wrong(panel, &book, *body);
+    if (wrong == body->end) return 0;
+    *place = wrong;
+    return 11;
+}
+
+/* The pairs of a right body's operations. */
+static unsigned long body_pairs(const unsigned char *bytes, struct second_body body)
+{
+    unsigned long at, pairs = 0;
+    for (at = body.begin; at < body.end; at += whole_length(bytes + at)) pairs += operation_pairs(bytes + at);
+    return pairs;
 }
 
 /* The stream. */
@@ -308,7 +356,7 @@ struct second_write_reply second_write(const struct second_panel *panel,
 {
     struct second_write_reply reply;
     struct stream stream;
-    struct body body;
+    struct second_body body;
     unsigned long at, needed;
     reply.number = 1;
     reply.place = 0;
@@ -316,7 +364,7 @@ struct second_write_reply second_write(const struct second_panel *panel,
     if (!second_panel_valid(panel)) return reply;
     reply.number = screen_number(panel, book, book_length, screen, &body, &reply.place);
     if (reply.number != 0) return reply;
-    needed = opening_pairs(panel) + body.pairs;
+    needed = opening_pairs(panel) + body_pairs(book, body);
     if (2 * needed > room_length) {
         reply.number = 12;
         reply.place = needed;
@@ -439,7 +487,7 @@ struct second_picture_reply second_picture(const struct second_panel *panel,
 {
     struct second_picture_reply reply;
     struct picture picture;
-    struct body body;
+    struct second_body body;
     unsigned long at;
     unsigned x, y;
     reply.number = 1;

@@ -5,6 +5,7 @@
 #include "second.h"
 
 #define SECOND_BOOK_LIMIT 32768UL
+#define SECOND_MOST_SCREENS 64
 #define SECOND_GLYPHS_LENGTH 1024UL
 
 struct second_write_reply {
@@ -21,6 +22,35 @@ struct second_picture_reply {
 /* The lengths of a picture's graphic and text planes, C * 8L and C * L. The panel is valid. */
 unsigned long second_graphic_length(const struct second_panel *panel);
 unsigned long second_text_length(const struct second_panel *panel);
+
+/* A book whose contents are sound. */
+struct second_book {
+    const unsigned char *bytes;
+    unsigned long length;
+    unsigned form;         /* 1, or 2 with identities */
+    unsigned long screens; /* n */
+};
+
+/* A screen's body, from begin up to but without end. */
+struct second_body {
+    unsigned long begin, end;
+};
+
+/* 0, or 9 and its place. The book is open only with 0. */
+unsigned second_book_open(const unsigned char *bytes, unsigned long length, struct second_book *book,
+                          unsigned long *place);
+
+/* Where an entry stands; that of n is where the bodies begin. */
+unsigned long second_entry_place(unsigned form, unsigned long index);
+
+/* The next three ask for an open book, an index below n, a valid panel and a place inside the body. */
+unsigned long second_book_identity(const struct second_book *book, unsigned long index); /* the index in form one */
+struct second_body second_book_body(const struct second_book *book, unsigned long index);
+/* The bytes of the operation at a place; 0 if it is unknown, cut or out of range. */
+unsigned long second_operation_length(const struct second_panel *panel, const struct second_book *book,
+                                      struct second_body body, unsigned long at);
+
+/* A screen is asked for by number in a book of form one, by identity in one of form two. */
 
 /* 0, 1, 9, 10, 11 or 12. The stream, kind and byte of each pair, fills the room's start; else the room is unchanged. */
 struct second_write_reply second_write(const struct second_panel *panel,

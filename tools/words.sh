@@ -78,27 +78,54 @@ skipped_log() {
         }'
 }
 
-# refuse_book NUMBER PLACE: of a file with C, L, w, a screen's number and a book
+# byte_in AT: a byte of the file, 0 where it is missing
+byte_in() {
+    found=$(bytes "$work/in" "$1" 1)
+    echo $((found))
+}
+
+# refuse_book NUMBER PLACE: of a file with C, L, w, a screen's number or identity and a book; `key` is the screen asked for
 refuse_book() {
-    screen=$(bytes "$work/in" 3 1)
     at="byte $2 of the book (byte $((4 + $2)) of the file)"
+    form=one
+    [ "$(byte_in 4)" != 0 ] || form=two
     case $1 in
     1) refuse_panel ;;
     9)
         if [ "$2" != 0 ]; then
-            echo "refused: 9, the book's contents are wrong: entry $((($2 - 1) / 4)), $at"
+            entry=$((($2 - 1) / 4))
+            [ "$form" = one ] || entry=$((($2 - 2) / 6))
+            echo "refused: 9, the book's contents are wrong: entry $entry, $at"
         else
             length=$(size "$work/in")
             echo "refused: 9, the book is empty or too long, has no screens or too many, or ends inside its contents:" \
                 "it has $((length < 4 ? 0 : length - 4)) bytes"
         fi
         ;;
-    10) echo "refused: 10, there is no screen $((screen)): the book has $(($(bytes "$work/in" 4 1))), counted from 0" ;;
+    10)
+        if [ "$form" = one ]; then
+            echo "refused: 10, there is no screen $key: the book has $(byte_in 4), counted from 0"
+        else
+            echo "refused: 10, there is no screen with identity $key: ./book lists the $(byte_in 5) that there are"
+        fi
+        ;;
     11)
-        operation=$(bytes "$work/in" $((4 + $2)) 1)
-        echo "refused: 11, an operation that is unknown, cut off or out of range for the panel: $at: operation $((operation))"
+        echo "refused: 11, an operation that is unknown, cut off or out of range for the panel: $at: operation $(byte_in $((4 + $2)))"
         ;;
     12) echo "refused: 12, the stream is too long: it has $2 pairs" ;;
     *) echo "refused: $1, see docs/NUMBERS.md: place $2" ;;
     esac
+}
+
+# refuse_move DIRECTION NUMBER PLACE: of such a file
+refuse_move() {
+    case $2:$1:$(byte_in 4) in
+    9:up:0) [ "$(size "$work/in")" -lt 5 ] || { echo "refused: 9, the book is in form two already" && return; } ;;
+    9:up:*) ;;
+    9:down:0) ;;
+    9:down:*) echo "refused: 9, the book is in form one already" && return ;;
+    17:*) echo "refused: 17, the identities are other than 0 to n-1, and form one can't keep them: ./book lists them" && return ;;
+    18:*) echo "refused: 18, in form two the book would have $3 bytes, and 32768 are the most" && return ;;
+    esac
+    refuse_book "$2" "$3"
 }

@@ -14,6 +14,7 @@ use Rattle.state.specs.declared.panel.Panel.{Panel}
 use Rattle.state.specs.declared.reply.Reply.{Reply}
 use Rattle.state.specs.State.{validPanel}
 use Rattle.display.specs.Frame.{frameFits, replyOf}
+use Rattle.contents.specs.Contents.{wordAt}
 use Rattle.book.specs.Screen.{Screen, screen, refused, screenOf}
 use Rattle.book.specs.Numbers.{screenNumber}
 use Rattle.book.proofs.Numbers.{refusal-number}
@@ -108,8 +109,8 @@ module _ (p : Panel) (book : List ℕ) (number : ℕ) (rom : List ℕ) (normal :
   number-is false v h = ap (λ (d : Drew). d .reply .number) (h ∙ drew-1 v)
 
 -- the whole text
-pub draw-all : (dual : Bool) (input out : List ℕ) {p : Panel} {number : ℕ} {normal : Bool} {book rom g t l f : List ℕ} → p ≡ panelIn dual input → number ≡ getD input 3 0 → normal ≡ phaseIn input
-    → book ≡ drop 5 input → PlanesCut p rom g t l f → {r : Reply} {a b c e : List ℕ} → drewAll r a b c e ≡ drawOf p book number rom normal g t l f
+pub draw-all : (dual : Bool) (input out : List ℕ) {p : Panel} {number : ℕ} {normal : Bool} {book rom g t l f : List ℕ} → p ≡ panelIn dual input → number ≡ wordAt input 3 → normal ≡ phaseIn input
+    → book ≡ drop 6 input → PlanesCut p rom g t l f → {r : Reply} {a b c e : List ℕ} → drewAll r a b c e ≡ drawOf p book number rom normal g t l f
     → length e ≡ length f → {w : ℕ} {o : List ℕ} → printed w o ≡ printPictureOf p (r .number) (r .place) e out
     → reported (record { count = w; number = r .number }) o ≡ drawTextOf dual rom input out
 unfolding drawTextOf drawText

@@ -1,9 +1,10 @@
-// The draw program: a panel, a screen's number, a phase and a book from standard input; to standard output the screen's refusal and its
+// The draw program: a panel, a screen's key, a phase and a book from standard input; to standard output the screen's refusal and its
 // picture. Started with an argument it takes the character ROM before them, with a second one the panel is in two halves.
 ghost use mathlib.Core.Path.{_≡_};
 ghost use lib.ListN.{length};
 ghost use Rattle.printed.specs.Printed.{panelIn, reported};
 ghost use Rattle.draw.specs.Drawing.{drawTextOf, PlanesCut};
+use contents::bytes::word_at;
 use libc::STDIN_FILENO;
 use libc::STDOUT_FILENO;
 use picture::draw::draw;
@@ -34,20 +35,10 @@ fn print_screen(
     requires { ⌜ PlanesCut panel (now rom) (now graphic) (now codes) (now glyphs) (now frame) ⌝ }
     ensures { λ r. ⌜ reported r (now (out .exit)) ≡ drawTextOf dual (now (rom .entry)) (now (input .entry)) (now (out .entry)) ⌝ }
 {
-    let number = byte_in(input, 3) as usize;
-    let phase = byte_in(input, 4) != 0;
-    let book = rest_in(input, 5);
-    let reply = draw(
-        panel,
-        book,
-        number,
-        rom,
-        phase,
-        graphic,
-        codes,
-        glyphs,
-        frame,
-    );
+    let key = word_at(input, 3) as usize;
+    let phase = byte_in(input, 5) != 0;
+    let book = rest_in(input, 6);
+    let reply = draw(panel, book, key, rom, phase, graphic, codes, glyphs, frame);
     let count = print_picture(panel, reply.number, reply.place, frame, out);
     Told {
         count,
@@ -97,7 +88,7 @@ fn main() {
     if !take_rom(&mut rom) {
         return;
     }
-    let mut input = [0u8; 32774];
+    let mut input = [0u8; 32775];
     let got = read_whole(STDIN_FILENO, &mut input);
     if got.failed {
         return;

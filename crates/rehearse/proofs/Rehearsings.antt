@@ -13,6 +13,7 @@ use Rattle.state.specs.declared.panel.Panel.{Panel}
 use Rattle.state.specs.declared.registers.Registers.{Registers}
 use Rattle.state.specs.State.{validPanel, validRegisters, resetRegisters}
 use Rattle.display.specs.Frame.{lentLengths, frameFits}
+use Rattle.contents.specs.Contents.{wordAt}
 use Rattle.book.specs.Screen.{Screen, screen, refused, screenOf}
 use Rattle.book.proofs.Numbers.{refusal-number}
 use Rattle.writer.specs.Stream.{countOf}
@@ -113,8 +114,8 @@ module _ (p : Panel) (book : List ℕ) (number : ℕ) (mem rom room frame : List
       printed-is out = λ i. printText (framed-is (validPanel p) refl i && eqb (length out) 196608) (text-is (validPanel p) refl i) out
 
 -- the whole text
-pub rehearse-all : (dual : Bool) (input out mem rom room frame : List ℕ) {p : Panel} {number : ℕ} {r : Registers} {book : List ℕ} → p ≡ panelIn dual input → number ≡ getD input 3 0
-    → book ≡ drop 4 input → r ≡ resetRegisters → length mem ≡ 65536 → length rom ≡ 1024 → length frame ≡ validSize p (frameSize p) → length room ≡ 2097152
+pub rehearse-all : (dual : Bool) (input out mem rom room frame : List ℕ) {p : Panel} {number : ℕ} {r : Registers} {book : List ℕ} → p ≡ panelIn dual input → number ≡ wordAt input 3
+    → book ≡ drop 5 input → r ≡ resetRegisters → length mem ≡ 65536 → length rom ≡ 1024 → length frame ≡ validSize p (frameSize p) → length room ≡ 2097152
     → {x : Rehearsed} {m b f : List ℕ} → rehearsedAll x m b f ≡ rehearseOf p r mem rom book number room frame → length f ≡ length frame
     → {w : ℕ} {o : List ℕ} → printed w o ≡ printRehearsalOf p (x .pairs) (x .number) (x .place) f out
     → reported (record { count = w; number = x .number }) o ≡ rehearseTextOf dual rom input out

@@ -3,9 +3,10 @@ use mathlib.Core.Bool.{Bool, true, cond}
 use mathlib.Core.List.{List, _++_}
 use Prim.Native.Nat.{ℕ, _*_}
 use lib.Dec.{ltb, eqb}
-use lib.ListN.{length, getD, drop}
+use lib.ListN.{length, drop}
 use Rattle.state.specs.declared.panel.Panel.{Panel}
 use Rattle.state.specs.State.{validPanel}
+use Rattle.contents.specs.Contents.{wordAt}
 use Rattle.book.specs.Screen.{Screen, screen, refused, screenOf}
 use Rattle.writer.specs.Stream.{countOf}
 use Rattle.picture.specs.Picture.{pictureOf, pictureFrame}
@@ -25,10 +26,10 @@ abbrev pub rehearsedNumber : Panel → Screen → ℕ
 rehearsedNumber p (screen os) = cond (ltb 2097152 (2 * countOf p os)) 12 0
 rehearsedNumber p (refused n place) = n
 
--- C, L, w, number, book: 1 where the panel is not valid, then what the screen comes to
+-- C, L, w, key, book: 1 where the panel is not valid, then what the screen comes to
 abbrev pub screenToRun : Bool → List ℕ → Screen
 screenToRun dual input =
-    cond (validPanel (panelIn dual input)) (screenOf (panelIn dual input) (drop 4 input) (getD input 3 0)) (refused 1 0)
+    cond (validPanel (panelIn dual input)) (screenOf (panelIn dual input) (drop 5 input) (wordAt input 3)) (refused 1 0)
 
 unfoldable pub rehearseText : Bool → List ℕ → List ℕ → List ℕ
 rehearseText dual rom input = rehearsed (panelIn dual input) rom (screenToRun dual input)

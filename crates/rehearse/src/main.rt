@@ -1,10 +1,11 @@
-// The rehearse program: a panel, a screen's number and a book from standard input; to standard output what running the screen's stream from
+// The rehearse program: a panel, a screen's key and a book from standard input; to standard output what running the screen's stream from
 // reset came to, and the frame. Started with an argument it takes the character ROM before them.
 ghost use mathlib.Core.Path.{_≡_};
 ghost use lib.ListN.{length};
 ghost use Rattle.printed.specs.Printed.{panelIn, reported};
 ghost use Rattle.state.specs.Sizes.{frameSize, validSize};
 ghost use Rattle.rehearse.specs.Rehearsing.{rehearseTextOf};
+use contents::bytes::word_at;
 use libc::STDIN_FILENO;
 use libc::STDOUT_FILENO;
 use printed::fill::character_rom;
@@ -42,20 +43,11 @@ fn print_screen(
     requires { ⌜ (length (now memory) ≡ 65536) × (length (now rom) ≡ 1024) × (length (now frame) ≡ validSize panel (frameSize panel)) ⌝ }
     ensures { λ r. ⌜ reported r (now (out .exit)) ≡ rehearseTextOf dual (now (rom .entry)) (now (input .entry)) (now (out .entry)) ⌝ }
 {
-    let number = byte_in(input, 3) as usize;
-    let book = rest_in(input, 4);
+    let key = word_at(input, 3) as usize;
+    let book = rest_in(input, 5);
     let mut room = empty_room();
     let registers = Registers::reset();
-    let rehearsed = rehearse(
-        panel,
-        registers,
-        memory,
-        rom,
-        book,
-        number,
-        &mut room,
-        frame,
-    );
+    let rehearsed = rehearse(panel, registers, memory, rom, book, key, &mut room, frame);
     let count = print_rehearsal(
         panel,
         rehearsed.pairs,
@@ -106,7 +98,7 @@ fn main() {
     if !take_rom(&mut rom) {
         return;
     }
-    let mut input = [0u8; 32773];
+    let mut input = [0u8; 32774];
     let got = read_whole(STDIN_FILENO, &mut input);
     if got.failed {
         return;

@@ -15,6 +15,7 @@ use Rattle.state.specs.State.{validPanel}
 use Rattle.controller.specs.Run.{logOf}
 use Rattle.controller.proofs.Logs.{log-length}
 use Rattle.book.specs.Operation.{Operation}
+use Rattle.contents.specs.Contents.{wordAt}
 use Rattle.book.specs.Screen.{Screen, screen, refused, screenOf}
 use Rattle.writer.specs.declared.written.Written.{Written}
 use Rattle.writer.specs.Stream.{streamOf, countOf}
@@ -104,8 +105,8 @@ module _ (out after : List ℕ) (l : length out ≡ 2097155) (k : length after �
   pub in-2 : (a b : ℕ) → 2 < length (set (set (back out after) 0 a) 1 b)
   in-2 a b = simp length-set (omega (arith, back-long))
 
-module _ (dual : Bool) (input out error : List ℕ) (h : not (lent out error) ≡ false) {p : Panel} {number : ℕ} {book : List ℕ} (i : p ≡ panelIn dual input) (j : number ≡ getD input 3 0)
-    (k : book ≡ drop 4 input) {r : Written} {after : List ℕ} (v : wroteAll r after ≡ writeOf p book number (lentRoom out)) where
+module _ (dual : Bool) (input out error : List ℕ) (h : not (lent out error) ≡ false) {p : Panel} {number : ℕ} {book : List ℕ} (i : p ≡ panelIn dual input) (j : number ≡ wordAt input 3)
+    (k : book ≡ drop 5 input) {r : Written} {after : List ℕ} (v : wroteAll r after ≡ writeOf p book number (lentRoom out)) where
   w : wroteAll r after ≡ writeOf p book number (drop 3 out)
   w = v ∙ ap (writeOf p book number) (room-is out)
 

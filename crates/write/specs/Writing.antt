@@ -3,10 +3,11 @@ use mathlib.Core.Bool.{Bool, cond, _&&_}
 use mathlib.Core.List.{List, [], _∷_}
 use Prim.Native.Nat.{ℕ, _*_}
 use lib.Dec.{ltb, eqb}
-use lib.ListN.{length, getD, drop}
+use lib.ListN.{length, drop}
 use Rattle.state.specs.declared.panel.Panel.{Panel}
 use Rattle.state.specs.State.{validPanel}
 use Rattle.controller.specs.Run.{logOf}
+use Rattle.contents.specs.Contents.{wordAt}
 use Rattle.book.specs.Screen.{Screen, screen, refused, screenOf}
 use Rattle.writer.specs.Stream.{streamOf, countOf}
 use Rattle.printed.specs.Printed.{panelIn, refusalLine, Printed, printed, printText}
@@ -29,11 +30,11 @@ written p (screen os) =
     (record { output = p .columns ∷ p .lines ∷ p .width ∷ logOf (streamOf p os); error = []; number = 0 })
 written p (refused n place) = refusalAlone n place
 
--- C, L, w, number, book: 1 where the panel is not valid, then what the screen comes to
+-- C, L, w, key, book: 1 where the panel is not valid, then what the screen comes to
 unfoldable pub writeGiven : Bool → List ℕ → Given
 writeGiven dual input =
     written (panelIn dual input)
-    (cond (validPanel (panelIn dual input)) (screenOf (panelIn dual input) (drop 4 input) (getD input 3 0)) (refused 1 0))
+    (cond (validPanel (panelIn dual input)) (screenOf (panelIn dual input) (drop 5 input) (wordAt input 3)) (refused 1 0))
 
 -- the bytes given, and the lent rooms for them
 pub record Both : Type 0 where

@@ -1,10 +1,11 @@
-// The write program: a panel, a screen's number and a book from standard input; to standard output the log that shows the screen, or
+// The write program: a panel, a screen's key and a book from standard input; to standard output the log that shows the screen, or
 // to standard error its refusal. With an argument the panel is in two halves.
 ghost use mathlib.Core.Path.{_≡_};
 ghost use mathlib.Core.Bool.{true};
 ghost use lib.ListN.{length};
 ghost use Rattle.printed.specs.Printed.{printed, refusalLine, printText};
 ghost use Rattle.write.specs.Writing.{givenIn, writeGivenOf};
+use contents::bytes::word_at;
 use libc::STDERR_FILENO;
 use libc::STDIN_FILENO;
 use libc::STDOUT_FILENO;
@@ -53,9 +54,9 @@ fn write_both(dual: bool, input: &[u8], out: &mut [u8], error: &mut [u8]) -> Len
         };
     }
     let panel = panel_in(input, dual);
-    let number = byte_in(input, 3) as usize;
-    let book = rest_in(input, 4);
-    let written = write(panel, book, number, &mut out[3..]);
+    let key = word_at(input, 3) as usize;
+    let book = rest_in(input, 5);
+    let written = write(panel, book, key, &mut out[3..]);
     if written.number != 0 {
         let line = put_refusal(panel, written.number, written.place, error);
         return Lengths {
@@ -76,7 +77,7 @@ fn write_both(dual: bool, input: &[u8], out: &mut [u8], error: &mut [u8]) -> Len
 
 // One byte past the limit shows that a book is too long.
 fn main() {
-    let mut input = [0u8; 32773];
+    let mut input = [0u8; 32774];
     let got = read_whole(STDIN_FILENO, &mut input);
     if got.failed {
         return;

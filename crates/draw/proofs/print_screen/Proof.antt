@@ -8,14 +8,14 @@ use borrow.Author.Needs.{needs}
 use Rattle.draw.proofs.print_screen.Statement.{statement}
 use Rattle.draw.proofs.print_screen.Tie as tie
 
+word-at-requires : tie.Need-word-at-requires
+word-at-requires c κs = search needs
+
+cast-key : tie.Need-cast-key
+cast-key c = search needs
+
 byte-in-requires : tie.Need-byte-in-requires
 byte-in-requires c κs = search needs
-
-cast-number : tie.Need-cast-number
-cast-number c = search needs
-
-byte-in-requires-2 : tie.Need-byte-in-requires-2
-byte-in-requires-2 c κs = search needs
 
 rest-in-requires : tie.Need-rest-in-requires
 rest-in-requires c κs = search needs
@@ -44,15 +44,15 @@ same-length-5 c = search needs
 returns : tie.Need-returns
 returns c =
     let s = c .before .before .before .before .before .before .before .before .before .before .before .before .before .before .before .before .before .before .before .before .before .before .before .before .before .before .before .before in
-    draw-all (s .args .dual) (s .args .input .now) (s .args .out .now) (s .pre .0) (c .before .before .before .before .before .before .before .before .before .before .before .before .before .before .before .before .before .before .before .before .byte-in .ensures) (ap (λ (n : ℕ). not (eqb n 0)) (c .before .before .before .before .before .before .before .before .before .before .before .before .before .before .before .before .before .before .before .byte-in2 .ensures)) (c .before .before .before .before .before .before .before .before .before .before .before .before .before .before .before .before .before .before .rest-in .ensures) (s .pre .1) (c .before .before .before .before .before .before .before .before .before .before .before .before .before .draw .ensures) (c .before .before .before .before .before .before .before .before .before .before .before .before .before .draw .kept .1 .1 .1 .1 .1 .1 .1 .1 .0) (c .before .before .print-picture .ensures)
+    draw-all (s .args .dual) (s .args .input .now) (s .args .out .now) (s .pre .0) (c .before .before .before .before .before .before .before .before .before .before .before .before .before .before .before .before .before .before .before .before .word-at .ensures) (ap (λ (n : ℕ). not (eqb n 0)) (c .before .before .before .before .before .before .before .before .before .before .before .before .before .before .before .before .before .before .before .byte-in .ensures)) (c .before .before .before .before .before .before .before .before .before .before .before .before .before .before .before .before .before .before .rest-in .ensures) (s .pre .1) (c .before .before .before .before .before .before .before .before .before .before .before .before .before .draw .ensures) (c .before .before .before .before .before .before .before .before .before .before .before .before .before .draw .kept .1 .1 .1 .1 .1 .1 .1 .1 .0) (c .before .before .print-picture .ensures)
 
 pub print-screen-spec : {M : Type 1} → statement M
 print-screen-spec =
     tie.close
     (tie.spec
+    word-at-requires
+    cast-key
     byte-in-requires
-    cast-number
-    byte-in-requires-2
     rest-in-requires
     draw-requires
     print-picture-requires

@@ -5,11 +5,11 @@ use borrow.Author.Needs.{needs}
 use Rattle.rehearse.proofs.print_screen.Statement.{statement}
 use Rattle.rehearse.proofs.print_screen.Tie as tie
 
-byte-in-requires : tie.Need-byte-in-requires
-byte-in-requires c κs = search needs
+word-at-requires : tie.Need-word-at-requires
+word-at-requires c κs = search needs
 
-cast-number : tie.Need-cast-number
-cast-number c = search needs
+cast-key : tie.Need-cast-key
+cast-key c = search needs
 
 rest-in-requires : tie.Need-rest-in-requires
 rest-in-requires c κs = search needs
@@ -42,14 +42,14 @@ returns : tie.Need-returns
 returns c =
     let s = c .before .before .before .before .before .before .before .before .before .before .before .before .before .before .before .before .before .before .before .before .before .before .before in
     let a = c .before .before .before .before .before .before .before .before .before .before .rehearse in
-    rehearse-all (s .args .dual) (s .args .input .now) (s .args .out .now) (s .args .memory .now) (s .args .rom .now) (c .before .before .before .before .before .before .before .before .before .before .before .before .before .before .before .empty-room .result) (s .args .frame .now) (s .pre .0) (c .before .before .before .before .before .before .before .before .before .before .before .before .before .before .before .before .before .byte-in .ensures) (c .before .before .before .before .before .before .before .before .before .before .before .before .before .before .before .before .rest-in .ensures) (c .before .before .before .before .before .before .before .before .before .before .before .before .before .before .reset .ensures .0) (s .pre .1 .0) (s .pre .1 .1) (s .pre .1 .2) (sym (c .before .before .before .before .before .before .before .before .before .before .before .before .before .before .before .empty-room .ensures)) (a .ensures .0) (a .kept .1 .1 .1 .1 .1 .1 .1 .0) (c .before .before .print-rehearsal .ensures)
+    rehearse-all (s .args .dual) (s .args .input .now) (s .args .out .now) (s .args .memory .now) (s .args .rom .now) (c .before .before .before .before .before .before .before .before .before .before .before .before .before .before .before .empty-room .result) (s .args .frame .now) (s .pre .0) (c .before .before .before .before .before .before .before .before .before .before .before .before .before .before .before .before .before .word-at .ensures) (c .before .before .before .before .before .before .before .before .before .before .before .before .before .before .before .before .rest-in .ensures) (c .before .before .before .before .before .before .before .before .before .before .before .before .before .before .reset .ensures .0) (s .pre .1 .0) (s .pre .1 .1) (s .pre .1 .2) (sym (c .before .before .before .before .before .before .before .before .before .before .before .before .before .before .before .empty-room .ensures)) (a .ensures .0) (a .kept .1 .1 .1 .1 .1 .1 .1 .0) (c .before .before .print-rehearsal .ensures)
 
 pub print-screen-spec : {M : Type 1} → statement M
 print-screen-spec =
     tie.close
     (tie.spec
-    byte-in-requires
-    cast-number
+    word-at-requires
+    cast-key
     rest-in-requires
     empty-room-requires
     reset-requires

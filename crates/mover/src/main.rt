@@ -1,0 +1,52 @@
+// The mover: a direction, C, L, w and a book from standard input; to standard output the book in the other form, or to standard error its
+// refusal.
+use contents::bytes::byte_at;
+use ground::bytes::lesser;
+use layout::moves::Moved;
+use layout::moves::move_down;
+use layout::moves::move_up;
+use libc::STDERR_FILENO;
+use libc::STDIN_FILENO;
+use libc::STDOUT_FILENO;
+use report::read_whole;
+use report::report;
+
+// Direction 0 is down, any other byte up. The panel's three bytes stand before the book.
+fn moved(input: &[u8], out: &mut [u8]) -> Moved {
+    let start = lesser(4, input.len());
+    let book = &input[start..];
+    if byte_at(input, 0) == 0 {
+        return move_down(book, out);
+    }
+    move_up(book, out)
+}
+
+fn put_refusal(number: u8, place: usize) -> bool {
+    let refusal = io::write_all(STDERR_FILENO, b"refusal ");
+    let which = io::print_decimal(STDERR_FILENO, number as u64);
+    let at = io::write_all(STDERR_FILENO, b" place ");
+    let where_it_is = io::print_decimal(STDERR_FILENO, place as u64);
+    refusal & which & at & where_it_is & io::write_all(STDERR_FILENO, b"\n")
+}
+
+// One byte past the limit shows that a book is too long; no moved book is longer than the output.
+fn main() {
+    let mut input = [0u8; 32773];
+    let got = read_whole(STDIN_FILENO, &mut input);
+    if got.failed {
+        return;
+    }
+    let end = got.count;
+    let mut out = [0u8; 32768];
+    let moved = moved(&input[..end], &mut out);
+    if moved.number != 0 {
+        if put_refusal(moved.number, moved.place) {
+            report(moved.number);
+        }
+        return;
+    }
+    let size = lesser(moved.size, 32768);
+    if io::write_all(STDOUT_FILENO, &out[..size]) {
+        report(0);
+    }
+}
