@@ -10,6 +10,7 @@ use lib.Dec.{leb, eqb}
 use lib.ListN.{length, getD, set}
 use lib.Seq.{sets}
 use Rattle.ground.specs.Lists.{zeros}
+use Rattle.ground.proofs.Tests.{settled}
 use Rattle.contents.specs.declared.entry.Entry.{Entry}
 use Rattle.contents.specs.declared.open.Spans.{Spans}
 use Rattle.contents.specs.Contents.{Body, Contents, sound, wrong, withBody, isTwo, countAt, entriesAt, entrySize, firstBody, entryAt, wrongEntry, bodyOf, entriesFrom, opens, contentsIn, contentsOf}
@@ -147,3 +148,7 @@ module _ (book : List ℕ) {first at n from : ℕ} (a : first ≡ getD book 0 0)
 
   pub open-shut : {r : Spans} → tested ≡ false → r ≡ shutSpans 9 0 → r ≡ spansOf (isTwo book) (contentsOf book)
   open-shut e h = h ∙ opening-as false e
+
+-- two replies that meet the promise of `open` are equal
+pub open-settled : {x y : Spans} (book : List ℕ) → x ≡ spansOf (isTwo book) (contentsOf book) → y ≡ spansOf (isTwo book) (contentsOf book) → x ≡ y
+open-settled book h k = settled h k

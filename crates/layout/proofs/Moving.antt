@@ -7,6 +7,7 @@ use native.Mathlib.Omega.{arith}
 use lib.Dec.{leb, eqb}
 use lib.ListN.{length, getD}
 use borrow.Author.Tests.{le-leb, lt-leb, eq-eqb, ne-eqb}
+use Rattle.ground.proofs.Tests.{settled}
 use Rattle.contents.specs.declared.open.Spans.{Spans}
 use Rattle.contents.specs.Contents.{Body, Contents, sound, wrong, isTwo, contentsOf, firstBody}
 use Rattle.contents.specs.Spans.{spansOf}
@@ -118,3 +119,10 @@ module _ (book out : List ℕ) where
           q ∙ ap (λ (y : List ℕ). fitted y out) (laid-as false)
           ∙ ap (λ (v : Bool). cond v (fitted (laidOut false (screensOf book (k .bodies))) out) (notMoved 17 0 out)) (sym f ∙ e ∙ k .tables .numbered)
           ∙ down-as t (sound (k .bodies)) (k .tables .contents)
+
+-- two replies that meet the promise of a move are equal, and so are the outputs
+pub move-up-settled : {x y : MovedBook} (book out : List ℕ) → x ≡ upOf book out → y ≡ upOf book out → x ≡ y
+move-up-settled book out h k = settled h k
+
+pub move-down-settled : {x y : MovedBook} (book out : List ℕ) → x ≡ downOf book out → y ≡ downOf book out → x ≡ y
+move-down-settled book out h k = settled h k
