@@ -4,3 +4,4 @@ pub mod Places
 pub mod Cells
 pub mod Bodies
 pub mod Answers
+pub mod Plannings

@@ -4,5 +4,6 @@ mod cell;
 pub mod cursor;
 pub mod draw;
 mod paint;
+pub mod plan;
 mod plane;
 mod style;

@@ -2,6 +2,6 @@
 pub mod homes;
 mod opening;
 mod put;
-mod stream;
+pub mod stream;
 pub mod write;
 pub mod written;

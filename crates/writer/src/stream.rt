@@ -98,7 +98,7 @@ fn put_glyph(room: &mut [u8], at: usize, k: u8, book: &[u8], from: usize) -> usi
 }
 
 // Text, graphics and cursor shown, the cursor steady or blinking.
-fn cursor_code(blink: bool) -> u8
+pub fn cursor_code(blink: bool) -> u8
     ensures { λ r. ⌜ r ≡ cond blink 0x9f 0x9e ⌝ }
 {
     if blink { 0x9f } else { 0x9e }
@@ -124,7 +124,7 @@ fn put_cursor(
 }
 
 // The code that sets a combination, characters internal.
-fn combination_code(combination: Combination) -> u8
+pub fn combination_code(combination: Combination) -> u8
     ensures { λ r. ⌜ r ≡ combinationCode combination ⌝ }
 {
     match combination {

@@ -1,0 +1,4 @@
+pub mod Comparing
+pub mod Ends
+pub mod Shorts
+pub mod Screens

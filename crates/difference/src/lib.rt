@@ -1,0 +1,4 @@
+// From a screen that is shown to another by what differs.
+mod changes;
+mod put;
+pub mod write;
