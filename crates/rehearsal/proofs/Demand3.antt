@@ -76,23 +76,23 @@ holding-length p mem a =
     ∙ length-sets (sets mem graphicHome (a .graphic)) (textHome p) (a .codes) ∙ length-sets mem graphicHome (a .graphic)
 
 -- the room's start is the stream
-written-log : (room log : List ℕ) {n : ℕ} → n ≡ length log → n ≤ length room → take n (sets room 0 log) ≡ log
+pub written-log : (room log : List ℕ) {n : ℕ} → n ≡ length log → n ≤ length room → take n (sets room 0 log) ≡ log
 written-log room log {n} e l =
     ap (take n) (sets-eq log room 0 (omega arith)) ∙ take-at log (drop (0 + length log) room) n (sym e)
 
 module _ (p : Panel) (v : validPanel p ≡ true) (book : List ℕ) (bytes : (i : ℕ) → getD book i 0 < 256) (number : ℕ) {os : List Operation}
     (whole : screenOf p book number ≡ screen os) (r : Registers) (mem rom : List ℕ)
     (valid : validRegisters r ≡ true) (size : length mem ≡ 65536) (characters : length rom ≡ 1024) where
-  abbrev g : List ℕ
+  abbrev pub g : List ℕ
   g = firstGap p mem
 
-  abbrev h : List ℕ
+  abbrev pub h : List ℕ
   h = secondGap p mem
 
-  abbrev a : Picture
+  abbrev pub a : Picture
   a = pictureOf p os
 
-  drawn : Drawn p v mem size rom r os
+  pub drawn : Drawn p v mem size rom r os
   drawn = stream-draws p v mem size rom r book bytes number whole
 
   long : length (streamOf p os) ≡ countOf p os
@@ -100,7 +100,7 @@ module _ (p : Panel) (v : validPanel p ≡ true) (book : List ℕ) (bytes : (i :
 
   module _ (buffer : List ℕ) where
     -- what the run over the stream comes to
-    abbrev came : RanAll
+    abbrev pub came : RanAll
     came =
         ranAll (record { number = 0; place = 0; taken = length (streamOf p os); answers = 0; registers = machineFor p r g h a (drawn .pointer) .registers })
         (laid g h (a .graphic) (a .codes) (a .glyphs)) buffer
@@ -136,7 +136,7 @@ module _ (p : Panel) (v : validPanel p ≡ true) (book : List ℕ) (bytes : (i :
           (omega (arith, long)) (drawn .run)
 
       module _ (room : List ℕ) (fits : 2 * countOf p os ≤ length room) where
-        over-room : stoppingOf p r mem rom (take (2 * countOf p os) (sets room 0 (logOf (streamOf p os)))) limit buffer ≡ came
+        pub over-room : stoppingOf p r mem rom (take (2 * countOf p os) (sets room 0 (logOf (streamOf p os)))) limit buffer ≡ came
         over-room =
             ap (λ (l : List ℕ). stoppingOf p r mem rom l limit buffer)
             (written-log room (logOf (streamOf p os)) (omega (arith, long, log-length (streamOf p os))) fits)

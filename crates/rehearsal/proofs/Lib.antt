@@ -4,5 +4,8 @@ pub mod Openings
 pub mod Cells
 pub mod Demand3
 pub mod Reordered
+pub mod Idles
+pub mod Shortened
+pub mod Changed
 pub mod Rehearsals
 pub mod BenchPoints

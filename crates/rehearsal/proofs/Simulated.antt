@@ -153,7 +153,7 @@ module _ (p : Panel) (v : validPanel p ≡ true) (rom : List ℕ) (r : Registers
         (store-glyphs g h (a .graphic) (a .codes) (a .glyphs) (s .fits) i vs l)
         (shape-planes s _ _ _ refl refl (length-sets (a .glyphs) i vs)) q
 
-    sim-cursor : (line column height : ℕ) (blink : Bool) → CursorRange p line column height → (q : ℕ)
+    pub sim-cursor : (line column height : ℕ) (blink : Bool) → CursorRange p line column height → (q : ℕ)
         → Sim (operationPairs p (cursor line column height blink)) a (applied p (cursor line column height blink) a) q
     unfolding operationPairs applied displayFor
     sim-cursor line column height blink k q =
@@ -173,7 +173,7 @@ module _ (p : Panel) (v : validPanel p ≡ true) (rom : List ℕ) (r : Registers
           shape = record { fits = s .fits; graphic = s .graphic; codes = s .codes; plain = s .plain; laid-on = k .down };
         }
 
-    sim-combine : (k : Combination) → isAttribute k ≡ false → (q : ℕ) → Sim (operationPairs p (combine k)) a (applied p (combine k) a) q
+    pub sim-combine : (k : Combination) → isAttribute k ≡ false → (q : ℕ) → Sim (operationPairs p (combine k)) a (applied p (combine k) a) q
     unfolding operationPairs applied displayFor
     sim-combine k e q =
         record {

@@ -1,4 +1,5 @@
 pub mod Demand3
 pub mod Reorders
+pub mod Changes
 pub mod Rehearsed
 pub mod BenchPoints
