@@ -40,10 +40,10 @@ fn put_changes(room: &mut [u8], at: usize, home: usize, old: &[u8], new: &[u8]) 
     let mut w = at;
     let mut i: usize = 0;
     while i < new.len() {
-        let j = i;
+        let k = i;
         i += 1;
-        if old[j] != new[j] {
-            w = put_change(room, w, home + j, new[j]);
+        if old[k] != new[k] {
+            w = put_change(room, w, home + k, new[k]);
         }
     }
     w
