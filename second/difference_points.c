@@ -164,7 +164,7 @@ static void draw_registers(struct generate_random *random, struct second_registe
 static int run(struct second_registers *registers, unsigned char *memory, const unsigned char *stream, unsigned long pairs)
 {
     struct second_run_reply reply = second_run(&p, registers, memory, SECOND_MEMORY_LENGTH, rom, SECOND_ROM_LENGTH,
-                                               stream, 2 * pairs, pairs, NULL, 0);
+                                               stream, 2 * pairs, pairs, NULL, 0, NULL, 0);
     return reply.number == 0 && reply.taken == pairs;
 }
 
@@ -202,7 +202,7 @@ static int streams_agree(struct generate_random *random, const unsigned char *by
         between[2 * i] = (unsigned char)(3 + generate_below(random, 2)); /* a status read or a tick */
         between[2 * i + 1] = (unsigned char)generate_below(random, 256);
     }
-    second_run(&p, &registers, after_a, SECOND_MEMORY_LENGTH, rom, SECOND_ROM_LENGTH, between, 2 * pairs, pairs, answers, 8);
+    second_run(&p, &registers, after_a, SECOND_MEMORY_LENGTH, rom, SECOND_ROM_LENGTH, between, 2 * pairs, pairs, answers, 8, NULL, 0);
 
     memcpy(by_full, after_a, sizeof by_full);
     memcpy(by_short, after_a, sizeof by_short);

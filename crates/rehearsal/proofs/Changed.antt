@@ -1,7 +1,7 @@
 -- Request 14: A's stream, ticks and status reads, then the short stream; beside it B's full one.
 use mathlib.Core.Path.{_≡_, refl, sym, ap, subst, _∙_}
 use mathlib.Core.Bool.{Bool, true}
-use mathlib.Core.List.{List}
+use mathlib.Core.List.{List, []}
 use Prim.Native.Nat.{ℕ, _+_, _*_, _≤_, _<_}
 use native.Mathlib.Omega.{arith}
 use lib.ListN.{length, getD, take}
@@ -86,7 +86,7 @@ module _ (p : Panel) (v : validPanel p ≡ true) (rom book : List ℕ) (bytes : 
 
     one-valid : validRegisters (one .ran .registers) ≡ true
     one-valid =
-        demand-3 p book a os (l .room) r mem rom (l .answers) (l .limit) bytes v e (enough .room) valid size characters (enough .limit) .1 .valid
+        demand-3 p book a os (l .room) r mem rom (l .answers) [] (l .limit) bytes v e (enough .room) valid size characters (enough .limit) .1 .valid
 
     module _ (idle : List Pair) (i : allIdle idle ≡ true) (m : Lent) where
       abbrev two : RanAll
@@ -115,7 +115,7 @@ module _ (p : Panel) (v : validPanel p ≡ true) (rom book : List ℕ) (bytes : 
       two-size : length (two .memory) ≡ 65536
       two-size =
           ap length (two-memory ∙ sym (ap (λ (n : Machine). n .memory) one-standing)
-          ∙ demand-3 p book a os (l .room) r mem rom (l .answers) (l .limit) bytes v e (enough .room) valid size characters (enough .limit) .1 .memory)
+          ∙ demand-3 p book a os (l .room) r mem rom (l .answers) [] (l .limit) bytes v e (enough .room) valid size characters (enough .limit) .1 .memory)
           ∙ holding-length p mem A ∙ size
 
       turns : Turns p rom s g h (shortStream p A B) A B (x .pointer)
@@ -166,7 +166,7 @@ module _ (p : Panel) (v : validPanel p ≡ true) (rom book : List ℕ) (bytes : 
                     ap (λ (w : RanAll). frameIn w phase) three-is ∙ frame-same p v g h B (y .shape) (turns .next .display) rom phase;
                 memory = ap (λ (w : RanAll). w .memory) three-is ∙ over
                     ∙ sym
-                    (demand-3 p book b qs (o .room) (two .ran .registers) (two .memory) rom (o .answers) (o .limit) bytes v f (enough-b .room) two-valid two-size characters (enough-b .limit) .1 .memory);
+                    (demand-3 p book b qs (o .room) (two .ran .registers) (two .memory) rom (o .answers) [] (o .limit) bytes v f (enough-b .room) two-valid two-size characters (enough-b .limit) .1 .memory);
               }
             where
               frameIn : RanAll → Bool → List ℕ
