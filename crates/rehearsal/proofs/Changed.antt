@@ -17,6 +17,7 @@ use Rattle.effects.specs.Machine.{Machine, machine}
 use Rattle.controller.specs.Access.{Pair, stepOf}
 use Rattle.controller.specs.Run.{RanAll, ranAll, logOf, stoppingOf}
 use Rattle.controller.proofs.Logs.{log-length, run-takes}
+use Rattle.controller.proofs.SplittingOn.{agree}
 use Rattle.controller.proofs.Takes.{Takes}
 use Rattle.book.specs.Operation.{Operation}
 use Rattle.book.specs.Screen.{screen, screenOf}
@@ -29,7 +30,7 @@ use Rattle.difference.specs.Change.{changeOf}
 use Rattle.difference.proofs.Answers.{short-length, change-fits}
 use Rattle.difference.proofs.Screens.{laid-range}
 use Rattle.rehearsal.specs.Demand3.{holding}
-use Rattle.rehearsal.specs.Changes.{allIdle, Lent, Enough, ranScreen, ranOn, ranShort, Changed, Changes}
+use Rattle.rehearsal.specs.Changes.{allIdle, Lent, Enough, ranScreen, ranOn, ranShort, ranShortOn, Changed, Changes}
 use Rattle.rehearsal.proofs.Areas.{laid, stored-over}
 use Rattle.rehearsal.proofs.Cells.{frame-same}
 use Rattle.rehearsal.proofs.Demand3.{written-log, holding-length, came, over-room, drawn, demand-3}
@@ -154,7 +155,7 @@ module _ (p : Panel) (v : validPanel p ≡ true) (rom book : List ℕ) (bytes : 
               ∙ stored-over g h (A .graphic) (A .codes) (A .glyphs) (B .graphic) (B .codes) (B .glyphs) (x .shape .fits)
               (y .shape .graphic ∙ sym (x .shape .graphic)) (y .shape .codes ∙ sym (x .shape .codes)) (y .shape .fits .glyphs ∙ sym (x .shape .fits .glyphs)))
 
-          pub short-changes : Changed p rom A B (changeOf p book a b (n .room)) three four
+          pub short-changes : Changed p rom A B (changeOf p book a b (n .room)) three (ranShortOn p rom book a b (shortCount A B) n two) four
           unfolding displayFor
           short-changes =
               record {
@@ -164,6 +165,9 @@ module _ (p : Panel) (v : validPanel p ≡ true) (rom book : List ℕ) (bytes : 
                 taken = ap (λ (w : RanAll). w .ran .taken) three-is ∙ short-length p A B;
                 frame = λ phase.
                     ap (λ (w : RanAll). frameIn w phase) three-is ∙ frame-same p v g h B (y .shape) (turns .next .display) rom phase;
+                either = λ skips.
+                    agree p (two .ran .registers) (two .memory) rom (take (2 * shortCount A B) (changeOf p book a b (n .room) .room)) (n .limit) (n .answers) skips
+                    (ap (λ (w : RanAll). w .ran .number) three-is);
                 memory = ap (λ (w : RanAll). w .memory) three-is ∙ over
                     ∙ sym
                     (demand-3 p book b qs (o .room) (two .ran .registers) (two .memory) rom (o .answers) [] (o .limit) bytes v f (enough-b .room) two-valid two-size characters (enough-b .limit) .1 .memory);

@@ -12,6 +12,7 @@ use Rattle.display.specs.Frame.{frameOf}
 use Rattle.effects.specs.Effect.{withPhase}
 use Rattle.controller.specs.Access.{Pair}
 use Rattle.controller.specs.Run.{RanAll, logOf, stoppingOf}
+use Rattle.controller.specs.Skip.{RanOnAll, runOf}
 use Rattle.book.specs.Operation.{Operation}
 use Rattle.book.specs.Screen.{screen, screenOf}
 use Rattle.writer.specs.Stream.{countOf}
@@ -50,8 +51,13 @@ module _ (p : Panel) (rom book : List ℕ) where
   ranShort a b pairs l e =
       stoppingOf p (e .ran .registers) (e .memory) rom (take (2 * pairs) (changeOf p book a b (l .room) .room)) (l .limit) (l .answers)
 
--- what is asked of the short stream, and of the run over it beside that of B's full stream
-pub record Changed (p : Panel) (rom : List ℕ) (a b : Picture) (written : Wrote) (short full : RanAll) : Type 0 where
+  -- and by the ordinary run, with a list lent
+  abbrev pub ranShortOn : ℕ → ℕ → ℕ → Lent → RanAll → List ℕ → RanOnAll
+  ranShortOn a b pairs l e skips =
+      runOf p (e .ran .registers) (e .memory) rom (take (2 * pairs) (changeOf p book a b (l .room) .room)) (l .limit) (l .answers) skips
+
+-- what is asked of the short stream, and of either run over it beside that of B's full stream
+pub record Changed (p : Panel) (rom : List ℕ) (a b : Picture) (written : Wrote) (short : RanAll) (ordinary : List ℕ → RanOnAll) (full : RanAll) : Type 0 where
   -- written, with 5 pairs for each difference plus 2, or plus 6 with a cursor; refused nowhere, and all of them taken
   pub accepted : written .written ≡ record { number = 0; place = 0; pairs = shortCount a b }
   pub number : short .ran .number ≡ 0
@@ -61,6 +67,8 @@ pub record Changed (p : Panel) (rom : List ℕ) (a b : Picture) (written : Wrote
   pub frame : (phase : Bool) → frameOf p (withPhase (short .ran .registers .display) phase) (short .memory) rom ≡ pictureFrame p rom b phase
   -- all 65,536 bytes are those left by running B's full stream on that same controller
   pub memory : short .memory ≡ full .memory
+  -- the ordinary run comes to the same, with nothing listed
+  pub either : (skips : List ℕ) → ordinary skips ≡ record { all = short; skipped = 0; skips = skips }
 
 -- from every valid state and memory, whatever ticks and status reads come between, with or without room for their answers
 abbrev pub Changes : Type 0
@@ -80,5 +88,6 @@ Changes =
     → length rom ≡ 1024
     → Changed p rom (pictureOf p os) (pictureOf p qs) (changeOf p book a b (short .room))
     (ranShort p rom book a b (shortCount (pictureOf p os) (pictureOf p qs)) short (ranOn p rom book idle between (ranScreen p rom book a os first r mem)))
+    (ranShortOn p rom book a b (shortCount (pictureOf p os) (pictureOf p qs)) short (ranOn p rom book idle between (ranScreen p rom book a os first r mem)))
     (ranScreen p rom book b qs full (ranOn p rom book idle between (ranScreen p rom book a os first r mem) .ran .registers)
     (ranOn p rom book idle between (ranScreen p rom book a os first r mem) .memory))
