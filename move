@@ -6,6 +6,7 @@ usage='move [up|down] [OPTION..] [FILE]'
 . "$root/tools/front.sh"
 . "$root/tools/book.sh"
 program=mover
+flags=dual
 
 help() {
     cat <<'TEXT'
@@ -15,9 +16,10 @@ screens are counted. Without a word it is moved to the form that it has not.
 TEXT
     book_help
     cat <<'TEXT'
-Standard output gets the same file with the moved book. Up gives the identities 0 to n-1; down takes these and no others. Up and down
-again gives the same bytes. Where the book is refused there is nothing, and standard error has the reason.
+Standard output gets the same file with the moved book. Up gives the identities 0 to n-1, reads every screen on the panel, and takes none
+that uses AND, which form two does not know; down takes these identities and no others. Up and down again gives the same bytes. Where the book is refused there is nothing, and standard error has the reason.
 
+  --dual             the panel is scanned in two halves: L 2 to 32, even
   -o, --output FILE  into FILE, which appears when it is whole; not where the book is refused
   --sample           the sample, samples/letters.book; so too on a terminal where no file is named
   --help, --version  this; the kit that the program was proved with
@@ -57,7 +59,7 @@ fi
     panel_bytes
     tail -c +5 "$work/in"
 } >"$work/asked" || fail "the temporary folder '$work' can't be written"
-run_program <"$work/asked"
+run_program ${opt_dual:+dual} <"$work/asked"
 if [ "$number" = 0 ]; then
     { head -c 4 "$work/in" && cat "$work/gave"; } >"$work/moved" || fail "the temporary folder '$work' can't be written"
     give "$work/moved"

@@ -158,7 +158,7 @@ static int replies(struct second_move_reply reply, unsigned number, unsigned lon
 
 static struct second_move_reply up(const unsigned char *bytes, unsigned long length, unsigned long output_length)
 {
-    return second_move_up(bytes, length, output, output_length);
+    return second_move_up(&panel, bytes, length, output, output_length);
 }
 
 static struct second_move_reply down(const unsigned char *bytes, unsigned long length, unsigned long output_length)
@@ -264,18 +264,101 @@ static void sizes(void)
         if (!all(output, sizeof output, UNTOUCHED)) holds = 0;
         fill_book(n, SECOND_BOOK_LIMIT - over);
         if (!replies(up(book, SECOND_BOOK_LIMIT - over, SECOND_BOOK_LIMIT - 1), 12, SECOND_BOOK_LIMIT, 0)) holds = 0;
-        if (!replies(second_move_up(book, SECOND_BOOK_LIMIT - over, back, sizeof back), 0, 0, SECOND_BOOK_LIMIT)) holds = 0;
+        if (!replies(second_move_up(&panel, book, SECOND_BOOK_LIMIT - over, back, sizeof back), 0, 0, SECOND_BOOK_LIMIT)) holds = 0;
     }
     point("18 past 32,768 bytes with the size, before 12; a book of just that size is moved", holds);
+}
+
+/* A book in form one, two bytes for each screen: EXOR, from and_from on AND, and in screen wrong an unknown operation. */
+static unsigned long combinations(unsigned n, unsigned long and_from, unsigned long wrong)
+{
+    unsigned long i, begin = 1 + 4UL * n;
+    book[0] = (unsigned char)n;
+    for (i = 0; i < n; i++) {
+        put(1 + 4 * i, begin + 2 * i);
+        put(3 + 4 * i, 2);
+        book[begin + 2 * i] = i == wrong ? 7 : 6;
+        book[begin + 2 * i + 1] = i >= and_from ? 2 : 1;
+    }
+    return begin + 2UL * n;
+}
+
+static void without_and(void)
+{
+    static const struct second_panel bad = {3, 17, 6, 0}, small = {2, 1, 6, 0}, dual = {3, 2, 6, 1};
+    static const unsigned char torn[] = {0, 1, 0, 0, 8, 0, 3, 0, 6, 2, 9};
+    static const unsigned char large[] = {1, 5, 0, 7, 0, 6, 1, 3, 17, 0, 0, 1};
+    unsigned long n, i, length;
+    int holds = 1, before = 1;
+    memset(output, UNTOUCHED, sizeof output);
+    for (n = 1; n <= 64; n += 9) {
+        for (i = 0; i < n; i++) {
+            length = combinations((unsigned)n, i, n);
+            if (!replies(up(book, length, i % 2 ? 0 : sizeof output), 19, i, 0)) holds = 0;
+            length = combinations((unsigned)n, i, n - 1);
+            if (!replies(up(book, length, sizeof output), 11, 1 + 4 * n + 2 * (n - 1), 0)) before = 0;
+        }
+    }
+    point("19 at the first screen with AND, before 12", holds);
+    point("11 in any screen comes before 19", before);
+    length = combinations(64, 63, 64);
+    book[1] ^= 1;
+    point("9 before 11 and 19", replies(up(book, length, 0), 9, 1, 0));
+    point("1 before 9", replies(second_move_up(&bad, book, length, output, 0), 1, 0, 0));
+    fill_book(1, SECOND_BOOK_LIMIT);
+    book[32767] = 2;
+    point("11 before 18", replies(up(book, SECOND_BOOK_LIMIT, 0), 11, 32763, 0));
+    fill_book(1, SECOND_BOOK_LIMIT - 1);
+    book[6] = 2;
+    point("19 before 18", replies(up(book, SECOND_BOOK_LIMIT - 1, 0), 19, 0, 0));
+    point("a dot past a smaller panel: 11 at its byte", replies(second_move_up(&small, large, sizeof large, output, 99), 11, 7, 0));
+    point("the output is untouched", all(output, sizeof output, UNTOUCHED));
+    point("a dual panel checks too, and takes what is in range",
+          replies(second_move_up(&dual, large, sizeof large, output, 99), 0, 0, sizeof large + 3));
+    point("a move down looks at no body", replies(down(torn, sizeof torn, 99), 0, 0, 8) && output[5] == 6 && output[6] == 2
+          && output[7] == 9);
+    length = combinations(2, 1, 9);
+    point("form one still has AND", both_give(length, 1, 0, 0) && second_write(&panel, book, length, 1, room, ROOM).pairs == opening + 1
+          && room[2 * opening + 1] == 0x83);
+    memcpy(book, torn, sizeof torn);
+    book[6] = 2;
+    point("form two does not: 11 for the operation", both_give(10, 0, 11, 8));
+    book[9] = 1;
+    point("EXOR stays", both_give(10, 0, 0, 0));
+    book[9] = 0;
+    point("OR stays", both_give(10, 0, 0, 0));
 }
 
 /* At random: right books up and down, down and up, and their screens. */
 
 static struct {
-    unsigned long up, down, other, too_long, screens;
+    unsigned long up, down, other, too_long, screens, with_and, wrong;
 } seen;
 
 static unsigned char input[GENERATE_BOOK_ROOM];
+
+/* What a move up of these bodies gets, 0, 11 or 19, by asking for every screen and looking for AND from its start. */
+static unsigned expected_number(const struct second_panel *p, const unsigned char *bytes, unsigned long length,
+                                unsigned long *place)
+{
+    static const unsigned char fixed[7] = {0, 4, 6, 5, 10, 5, 2};
+    unsigned long screen, n = bytes[0], at, end;
+    for (screen = 0; screen < n; screen++) {
+        struct second_write_reply reply = second_write(p, bytes, length, screen, NULL, 0);
+        *place = reply.place;
+        if (reply.number == 11) return 11;
+    }
+    for (screen = 0; screen < n; screen++) {
+        at = bytes[1 + 4 * screen] + 256UL * bytes[2 + 4 * screen];
+        end = at + bytes[3 + 4 * screen] + 256UL * bytes[4 + 4 * screen];
+        *place = screen;
+        for (; at < end; at += fixed[bytes[at]] + (bytes[at] == 1 ? bytes[at + 3] : 0U)) {
+            if (bytes[at] == 6 && bytes[at + 1] == 2) return 19;
+        }
+    }
+    *place = 0;
+    return 0;
+}
 
 /* The asked screen is the same in both forms. */
 static int screen_stays(const struct second_panel *p, const unsigned char *a, unsigned long a_length, unsigned long a_screen,
@@ -295,14 +378,19 @@ static int round_trip(unsigned long long seed, unsigned form)
     struct second_panel p = {0, 0, 0, 0};
     struct second_move_reply first, then;
     const unsigned char *bytes = input + GENERATE_BOOK_HEAD;
-    unsigned long length = made.length - GENERATE_BOOK_HEAD, i, changed = 1 + 2 * made.screens;
+    unsigned long length = made.length - GENERATE_BOOK_HEAD, i, changed = 1 + 2 * made.screens, place;
+    unsigned number;
     int indices = 1;
     if (made.number != 0) return 1;
     p.columns = input[0];
     p.lines = input[1];
     p.width = input[2];
     if (form == 1) {
-        first = second_move_up(bytes, length, output, sizeof output);
+        first = second_move_up(&p, bytes, length, output, sizeof output);
+        number = expected_number(&p, bytes, length, &place);
+        if (number == 11) seen.wrong++;
+        if (number == 19) seen.with_and++;
+        if (number != 0) return replies(first, number, place, 0);
         if (length + changed > SECOND_BOOK_LIMIT) {
             seen.too_long++;
             return replies(first, 18, length + changed, 0);
@@ -321,7 +409,9 @@ static int round_trip(unsigned long long seed, unsigned form)
         }
         if (!replies(first, 0, 0, length - changed)) return 0;
         seen.down++;
-        then = second_move_up(output, first.length, back, sizeof back);
+        then = second_move_up(&p, output, first.length, back, sizeof back);
+        number = expected_number(&p, output, first.length, &place);
+        if (number != 0) return replies(then, number, place, 0);
     }
     return replies(then, 0, 0, length) && memcmp(back, bytes, length) == 0
            && screen_stays(&p, bytes, length, input[3], output, first.length, input[3]);
@@ -337,11 +427,11 @@ static void at_random(unsigned long long seeds)
             holds = 0;
         }
     }
-    printf("# up and down %lu, down and up %lu, by 17 %lu, by 18 %lu; screens %lu\n", seen.up, seen.down, seen.other,
-           seen.too_long, seen.screens);
+    printf("# up and down %lu, down and up %lu, by 11 %lu, by 19 %lu, by 17 %lu, by 18 %lu; screens %lu\n", seen.up,
+           seen.down, seen.wrong, seen.with_and, seen.other, seen.too_long, seen.screens);
     point("up then down and down then up give the same bytes, the screens between them the same streams", holds);
-    point("both round trips, other identities, books too long to move up",
-          seen.up > seeds / 4 && seen.down > seeds / 20 && seen.other > seeds / 20 && seen.too_long > 0);
+    point("both round trips, other identities", seen.up > seeds / 20 && seen.down > seeds / 20 && seen.other > seeds / 20);
+    point("books with AND, and with a wrong body", seen.with_and > seeds / 20 && seen.wrong > seeds / 20);
 }
 
 int main(int argc, char **argv)
@@ -352,6 +442,7 @@ int main(int argc, char **argv)
     moves_by_hand();
     moves_refused();
     sizes();
+    without_and();
     at_random(argc == 2 ? strtoull(argv[1], NULL, 10) : 400);
     return 0;
 }

@@ -160,7 +160,7 @@ static void cursor(struct maker *m)
 static void combination(struct maker *m)
 {
     byte(m, 6);
-    byte(m, below(m, 3));
+    byte(m, below(m, m->form == 2 ? 2 : 3)); /* form two has no AND */
     m->pairs += 1;
 }
 
@@ -273,7 +273,7 @@ static void out_of_range(struct maker *m)
         break;
     default:
         combination(m);
-        operation[1] = past(m, 3);
+        operation[1] = past(m, m->form == 2 ? 2 : 3);
         break;
     }
 }

@@ -56,12 +56,43 @@ static struct second_move_reply lay_out(const struct second_book *book, unsigned
     return reply;
 }
 
-struct second_move_reply second_move_up(const unsigned char *book, unsigned long book_length,
+/* Does a right body set AND? */
+static int uses_and(const struct second_panel *panel, const struct second_book *book, struct second_body body)
+{
+    unsigned long at;
+    for (at = body.begin; at < body.end; at += second_operation_length(panel, book, body, at)) {
+        if (book->bytes[at] == 6 && book->bytes[at + 1] == 2) return 1;
+    }
+    return 0;
+}
+
+/* 0, or 11 or 19 and its place; an 11 in any screen comes first. */
+static unsigned bodies_number(const struct second_panel *panel, const struct second_book *book, unsigned long *place)
+{
+    unsigned long index;
+    for (index = 0; index < book->screens; index++) {
+        struct second_body body = second_book_body(book, index);
+        *place = second_first_wrong(panel, book, body);
+        if (*place != body.end) return 11;
+    }
+    for (index = 0; index < book->screens; index++) {
+        *place = index;
+        if (uses_and(panel, book, second_book_body(book, index))) return 19;
+    }
+    return 0;
+}
+
+struct second_move_reply second_move_up(const struct second_panel *panel,
+                                        const unsigned char *book, unsigned long book_length,
                                         unsigned char *output, unsigned long output_length)
 {
     struct second_book one;
     unsigned long place, needed;
+    unsigned number;
+    if (!second_panel_valid(panel)) return refused(1, 0);
     if (open_form(book, book_length, 1, &one, &place) != 0) return refused(9, place);
+    number = bodies_number(panel, &one, &place);
+    if (number != 0) return refused(number, place);
     needed = length_in_form(&one, 2);
     if (needed > SECOND_BOOK_LIMIT) return refused(18, needed);
     if (needed > output_length) return refused(12, needed);

@@ -12,11 +12,12 @@ struct second_move_reply {
 
 /* The moved book fills the output's start; else the output is unchanged. Book and output do not overlap. */
 
-/* 0, 9, 18 or 12. Identities become 0 to n - 1. */
-struct second_move_reply second_move_up(const unsigned char *book, unsigned long book_length,
+/* 0, 1, 9, 11, 19, 18 or 12. Identities become 0 to n - 1; every body is right on the panel and without AND. */
+struct second_move_reply second_move_up(const struct second_panel *panel,
+                                        const unsigned char *book, unsigned long book_length,
                                         unsigned char *output, unsigned long output_length);
 
-/* 0, 9, 17 or 12. */
+/* 0, 9, 17 or 12. The bodies are not looked at. */
 struct second_move_reply second_move_down(const unsigned char *book, unsigned long book_length,
                                           unsigned char *output, unsigned long output_length);
 

@@ -135,8 +135,8 @@ static unsigned dot_x(const unsigned char *operation)
     return operation[1] + 256U * operation[2];
 }
 
-/* The operation is a known one, and its bytes, a text's codes apart, are there. */
-static int in_range(const struct second_panel *panel, const unsigned char *operation)
+/* The operation is a known one, and its bytes, a text's codes apart, are there. Form two has no AND. */
+static int in_range(const struct second_panel *panel, unsigned form, const unsigned char *operation)
 {
     switch (operation[0]) {
     case TEXT: return text_in_range(panel, operation[1], operation[2], operation[3]);
@@ -144,7 +144,7 @@ static int in_range(const struct second_panel *panel, const unsigned char *opera
     case DOT: return dot_in_range(panel, dot_x(operation), operation[3], operation[4]);
     case GLYPH: return operation[1] >= 0x80;
     case CURSOR: return cursor_in_range(panel, operation[1], operation[2], operation[3], operation[4]);
-    default: return operation[1] <= 2;
+    default: return operation[1] <= (form == 2 ? 1 : 2);
     }
 }
 
@@ -156,7 +156,7 @@ unsigned long second_operation_length(const struct second_panel *panel, const st
     unsigned long fixed = fixed_length(operation[0]);
     if (fixed == 0 || fixed > left) return 0;
     if (whole_length(operation) > left) return 0;
-    return in_range(panel, operation) ? whole_length(operation) : 0;
+    return in_range(panel, book->form, operation) ? whole_length(operation) : 0;
 }
 
 static unsigned long operation_pairs(const unsigned char *operation)
@@ -171,8 +171,7 @@ static unsigned long operation_pairs(const unsigned char *operation)
     }
 }
 
-/* A body's first operation that is unknown, cut or out of range, or the body's end. */
-static unsigned long first_wrong(const struct second_panel *panel, const struct second_book *book,
+unsigned long second_first_wrong(const struct second_panel *panel, const struct second_book *book,
                                  struct second_body body)
 {
     unsigned long at = body.begin;
@@ -194,7 +193,7 @@ static unsigned screen_number(const struct second_panel *panel, const unsigned c
     index = find_screen(&book, screen);
     if (index == book.screens) return 10;
     *body = second_book_body(&book, index);
-    wrong = first_wrong(panel, &book, *body);
+    wrong = second_first_wrong(panel, &book, *body);
     if (wrong == body->end) return 0;
     *place = wrong;
     return 11;

@@ -43,12 +43,16 @@ unsigned second_book_open(const unsigned char *bytes, unsigned long length, stru
 /* Where an entry stands; that of n is where the bodies begin. */
 unsigned long second_entry_place(unsigned form, unsigned long index);
 
-/* The next three ask for an open book, an index below n, a valid panel and a place inside the body. */
+/* The next four ask for an open book, an index below n, a valid panel and a place inside the body. */
 unsigned long second_book_identity(const struct second_book *book, unsigned long index); /* the index in form one */
 struct second_body second_book_body(const struct second_book *book, unsigned long index);
-/* The bytes of the operation at a place; 0 if it is unknown, cut or out of range. */
+/* The bytes of the operation at a place; 0 if it is unknown, cut or out of range, as AND is in form two. */
 unsigned long second_operation_length(const struct second_panel *panel, const struct second_book *book,
                                       struct second_body body, unsigned long at);
+
+/* A body's first operation that is unknown, cut or out of range, or the body's end. */
+unsigned long second_first_wrong(const struct second_panel *panel, const struct second_book *book,
+                                 struct second_body body);
 
 /* A screen is asked for by number in a book of form one, by identity in one of form two. */
 

@@ -117,6 +117,17 @@ refuse_book() {
     esac
 }
 
+# and_place SCREEN: where its first AND stands, by the listing of the book
+and_place() {
+    build screens >&2
+    { panel_bytes && tail -c +5 "$work/in"; } | run screens ${opt_dual:+dual} 3>/dev/null | awk -v screen="$1" '
+        $1 == "screen" { here = $2 == screen }
+        here && $2 == "mode" && $3 == "AND" {
+            printf "byte %d of the book (byte %d of the file)", $1, 4 + $1
+            exit
+        }'
+}
+
 # refuse_move DIRECTION NUMBER PLACE: of such a file
 refuse_move() {
     case $2:$1:$(byte_in 4) in
@@ -125,6 +136,10 @@ refuse_move() {
     9:down:0) ;;
     9:down:*) echo "refused: 9, the book is in form one already" && return ;;
     17:*) echo "refused: 17, the identities are other than 0 to n-1, and form one can't keep them: ./book lists them" && return ;;
+    19:*)
+        echo "refused: 19, screen $3 uses AND, which form two does not know: $(and_place "$3"); in form one the book stays as it is"
+        return
+        ;;
     18:*) echo "refused: 18, in form two the book would have $3 bytes, and 32768 are the most" && return ;;
     esac
     refuse_book "$2" "$3"

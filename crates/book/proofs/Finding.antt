@@ -19,8 +19,8 @@ use Rattle.book.specs.declared.operation.Placed.{Placed}
 use Rattle.book.specs.declared.operation.Placed.the-variants.{Text, Rectangle, Dot, Glyph, Cursor, Combine}
 use Rattle.book.specs.declared.operation.Found.{Found}
 use Rattle.book.specs.declared.operation.Found.the-variants.{Operation as Found-Operation, End, Faulty}
-use Rattle.contents.specs.Contents.{wordAt}
-use Rattle.book.specs.Operation.{pairsFor, operationOf, sized, readText, readRectangle, readDot, readGlyph, readCursor, combinationOf, readCombine, foundHere, foundAt}
+use Rattle.contents.specs.Contents.{wordAt, isTwo}
+use Rattle.book.specs.Operation.{pairsFor, operationOf, sized, readText, readRectangle, readDot, readGlyph, readCursor, combinationOf, knownMode, readCombine, foundHere, foundAt}
 use Rattle.book.specs.Pairs.{placedPairs}
 use Rattle.book.specs.Range.{InRange, Stands, ByteSized, FoundOperation}
 use Rattle.ground.proofs.Conjuncts.{three, four, five}
@@ -124,7 +124,7 @@ module _ (p : Panel) (book : List ℕ) (at end : ℕ) where
     combine-known : Known (readCombine book at end)
     combine-known =
         let k : ℕ = getD book (at + 1) 0 in
-        sized-known 2 (leb k 2) (Combine (combinationOf k)) (omega arith) (λ b. tt) (λ w e. (record { plain = plain (eqb k 0) (eqb k 1) }, refl))
+        sized-known 2 (knownMode (isTwo book) k) (Combine (combinationOf k)) (omega arith) (λ b. tt) (λ w e. (record { plain = plain (eqb k 0) (eqb k 1) }, refl))
       where
         plain : (a b : Bool) → isAttribute (cond a Or (cond b Exor And)) ≡ false
         plain true b = refl

@@ -17,7 +17,7 @@ use Rattle.book.specs.declared.operation.Placed.the-variants.{Text, Rect
 use Rattle.book.specs.declared.operation.Found.{Found}
 use Rattle.book.specs.declared.operation.Found.the-variants.{Operation as Found-Operation, Faulty}
 use Rattle.contents.specs.Contents.{wordAt}
-use Rattle.book.specs.Operation.{sized, readText, readRectangle, readDot, readGlyph, readCursor, combinationOf, readCombine}
+use Rattle.book.specs.Operation.{sized, readText, readRectangle, readDot, readGlyph, readCursor, combinationOf, knownMode, readCombine}
 
 -- what the code tests for a whole operation
 module _ {at end : ℕ} (h : at ≤ end) (size : ℕ) where
@@ -71,6 +71,6 @@ module _ (p : Panel) (book : List ℕ) (at end : ℕ) {r : Found} where
   cursor-read i j k l h = cc
 
 module _ (book : List ℕ) (at end : ℕ) {r : Found} where
-  pub combine-read : {k : ℕ} {c : Combination} → k ≡ getD book (at + 1) 0 → c ≡ combinationOf k → r ≡ sized at end 2 (leb k 2) (Combine c)
+  pub combine-read : {first k : ℕ} {c : Combination} → first ≡ getD book 0 0 → k ≡ getD book (at + 1) 0 → c ≡ combinationOf k → r ≡ sized at end 2 (knownMode (eqb first 0) k) (Combine c)
       → r ≡ readCombine book at end
-  combine-read i j h = cc
+  combine-read e i j h = h ∙ (λ t. sized at end 2 (knownMode (eqb (e t) 0) (i t)) (Combine ((j ∙ ap combinationOf i) t)))

@@ -1,6 +1,6 @@
 -- 01, Screens: the operations, their checks, their pairs.
 use Prim.Native.Nat.{ℕ, _+_, _-_, _*_, _/_, _%_}
-use mathlib.Core.Bool.{Bool, cond, _&&_}
+use mathlib.Core.Bool.{Bool, cond, not, _&&_}
 use mathlib.Core.List.{List, [], _∷_}
 use lib.Dec.{ltb, leb, eqb}
 use lib.ListN.{length, getD, take, drop}
@@ -11,7 +11,7 @@ use Rattle.book.specs.declared.operation.Placed.{Placed}
 use Rattle.book.specs.declared.operation.Placed.the-variants.{Text, Rectangle, Dot, Glyph, Cursor, Combine}
 use Rattle.book.specs.declared.operation.Found.{Found}
 use Rattle.book.specs.declared.operation.Found.the-variants.{Operation as Found-Operation, End, Faulty}
-use Rattle.contents.specs.Contents.{wordAt}
+use Rattle.contents.specs.Contents.{wordAt, isTwo}
 
 pub data Operation : Type 0 where
   -- line, column, codes
@@ -108,12 +108,16 @@ readCursor p book at end =
 abbrev pub combinationOf : ℕ → Combination
 combinationOf k = cond (eqb k 0) Or (cond (eqb k 1) Exor And)
 
+-- a form two book no longer knows AND (02, Req 11)
+abbrev pub knownMode : Bool → ℕ → Bool
+knownMode two k = leb k 2 && not (two && eqb k 2)
+
 -- 6 k
-abbrev pub combineFound : ℕ → ℕ → ℕ → Found
-combineFound at end k = sized at end 2 (leb k 2) (Combine (combinationOf k))
+abbrev pub combineFound : Bool → ℕ → ℕ → ℕ → Found
+combineFound two at end k = sized at end 2 (knownMode two k) (Combine (combinationOf k))
 
 abbrev pub readCombine : List ℕ → ℕ → ℕ → Found
-readCombine book at end = combineFound at end (byteIn book at 1)
+readCombine book at end = combineFound (isTwo book) at end (byteIn book at 1)
 
 -- an operation begins at a byte of the book, in a body that ends before end
 unfoldable pub foundHere : Panel → List ℕ → ℕ → ℕ → Found

@@ -135,14 +135,16 @@ fn combination_of(k: u8) -> Combination
     }
 }
 
-// 6 k.
+// 6 k. A book of form two begins with 0, and does not know AND.
 fn read_combine(book: &[u8], at: usize, end: usize) -> Found
     requires { ⌜ (at < end) × (end ≤ length (now book)) ⌝ }
     ensures { λ r. ⌜ r ≡ readCombine (now (book .entry)) at end ⌝ }
 {
+    let two = byte_at(book, 0) == 0;
     let k = byte_at(book, at + 1);
     let placed = Placed::Combine(combination_of(k));
-    whole(at, end, 2, k <= 2, placed)
+    let known = (k <= 2) & !(two & (k == 2));
+    whole(at, end, 2, known, placed)
 }
 
 // The operation that begins at a byte inside the body.

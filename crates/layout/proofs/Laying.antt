@@ -17,7 +17,10 @@ use Rattle.contents.proofs.Spanning.{Stands, first-key, first-start, first-end,
 use Rattle.layout.specs.declared.moves.Moved.{Moved}
 use Rattle.layout.specs.Laid.{Kept, entryBytes, headBytes, entriesLaid, bodiesLaid, laidOut, bytesBetween, screensOf}
 use Rattle.layout.specs.Moved.{MovedBook, movedAll, notMoved, fitted, numberedFrom}
-use Rattle.layout.specs.Ready.{BytesPut, keptFrom, keptIn, sizesFrom, keysNumbered, entriesFor, laidSize, Spanned, Layable}
+use Rattle.layout.specs.Ready.{BytesPut, readFrom, keptFrom, keptIn, sizesFrom, keysNumbered, entriesFor, laidSize, Spanned, Layable}
+use Rattle.state.specs.declared.panel.Panel.{Panel}
+use Rattle.layout.specs.Uses.{bodiesRead}
+use Rattle.layout.proofs.Uses.{stands-read}
 use Rattle.layout.proofs.Puts.{sets-append, put-both, head-length, entry-length, between-length}
 
 -- the bytes of entries, and of bodies
@@ -162,6 +165,7 @@ pub record Tabled (book : List ℕ) (s : Spans) (bs : List Body) : Type 0 where
   pub kept : keptIn s book ≡ screensOf book bs
   pub numbered : keysNumbered s (s .count) 0 ≡ numberedFrom 0 bs
   pub size : laidSize (isTwo book) s ≤ length book
+  pub read : (p : Panel) → readFrom p s book (s .count) 0 ≡ bodiesRead p book 0 bs
 
 pub tabled : (book : List ℕ) (bs : List Body) → contentsOf book ≡ sound bs → Tabled book (spansOf (isTwo book) (sound bs)) bs
 tabled book bs h =
@@ -175,4 +179,5 @@ tabled book bs h =
       numbered = ap (λ (n : ℕ). keysNumbered (spansOf (isTwo book) (sound bs)) n 0) z ∙ stands-numbered bs 0 k;
       size = subst (λ (n : ℕ). firstBody (isTwo book) n + sizesFrom (spansOf (isTwo book) (sound bs)) n 0 ≤ length book) (sym z)
           (sizes-inside (isTwo book) book (entriesAt (isTwo book)) (firstBody (isTwo book) (length bs)) 0 0 bs (b .entries) (b .opens .contents) k);
+      read = λ p. ap (λ (n : ℕ). readFrom p (spansOf (isTwo book) (sound bs)) book n 0) z ∙ stands-read p book bs 0 k;
     }

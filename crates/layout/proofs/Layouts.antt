@@ -270,7 +270,7 @@ module _ (two : Bool) (ks : List Kept) (k : Screens two ks) where
   laid-count true = refl
   laid-count false = refl
 
-  laid-bodies : drop (firstBody two (length ks)) (laidOut two ks) ≡ bodiesLaid ks
+  pub laid-bodies : drop (firstBody two (length ks)) (laidOut two ks) ≡ bodiesLaid ks
   laid-bodies =
       sym (drop-drop (entrySize two * length ks) (entriesAt two) (laidOut two ks)) ∙ ap (drop (entrySize two * length ks)) (laid-head two)
       ∙ drop-at (entriesLaid two ks (firstBody two (length ks))) (bodiesLaid ks) (entrySize two * length ks) (entries-length two ks (firstBody two (length ks)))

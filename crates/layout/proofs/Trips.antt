@@ -8,13 +8,19 @@ use lib.Dec.{leb, eqb}
 use lib.ListN.{length, take, drop}
 use lib.Seq.{take-append-seam}
 use borrow.Author.Tests.{le-leb, leb-true}
-use Rattle.contents.specs.Contents.{Body, Contents, sound, wrong, isTwo, contentsOf, firstBody}
+use Rattle.state.specs.declared.panel.Panel.{Panel}
+use Rattle.state.specs.State.{validPanel}
+use Rattle.contents.specs.Contents.{Body, Contents, sound, wrong, isTwo, contentsOf, entriesAt, firstBody}
 use Rattle.contents.proofs.Soundness.{SoundBook, sound-book}
+use Rattle.layout.specs.declared.reading.BodiesRead.{BodiesRead}
+use Rattle.layout.specs.declared.reading.BodiesRead.the-variants.{Plain, And, Faulty}
+use Rattle.layout.specs.Uses.{bodiesRead}
 use Rattle.layout.specs.Laid.{Kept, laidOut, screensOf}
-use Rattle.layout.specs.Moved.{MovedBook, movedAll, notMoved, fitted, fittedUp, upIn, upOf, numberedFrom, downIn, downOf}
+use Rattle.layout.specs.Moved.{MovedBook, movedAll, notMoved, fitted, fittedUp, upRead, upIn, upOf, numberedFrom, downIn, downOf}
 use Rattle.layout.specs.Trips.{movedBytes, BookBytes, UpDown, DownUp}
 use Rattle.layout.proofs.Laying.{laid-length}
-use Rattle.layout.proofs.Layouts.{sound-laid, sound-keyed, Keyed, numbered-rising, numbered-keyed, keyed-numbered, bodiesFrom, screens-count, Screens, laid-form, laid-contents, laid-screens}
+use Rattle.layout.proofs.Bodies.{bodies-move}
+use Rattle.layout.proofs.Layouts.{sound-laid, sound-keyed, Keyed, numbered-rising, numbered-keyed, keyed-numbered, bodiesFrom, screens-count, Screens, laid-form, laid-bodies, laid-contents, laid-screens}
 
 -- a book that fitted is what was laid out
 fitted-bytes : (laid out : List ℕ) → fitted laid out .reply .number ≡ 0 → movedBytes (fitted laid out) ≡ laid
@@ -26,35 +32,40 @@ fitted-bytes laid out = go (leb (length laid) (length out))
     go false z = absurd (omega arith)
 
 -- a move that was made: from a sound book, and what it laid out
-pub record Up (book out : List ℕ) : Type 0 where
+pub record Up (p : Panel) (book out : List ℕ) : Type 0 where
   pub bodies : List Body
   pub form : isTwo book ≡ false
   pub contents : contentsOf book ≡ sound bodies
   pub short : length (laidOut true (screensOf book bodies)) ≤ 32768
-  pub bytes : movedBytes (upOf book out) ≡ laidOut true (screensOf book bodies)
+  pub bytes : movedBytes (upOf p book out) ≡ laidOut true (screensOf book bodies)
 
-pub up-made : (book out : List ℕ) → upOf book out .reply .number ≡ 0 → Up book out
+pub up-made : (p : Panel) (book out : List ℕ) → upOf p book out .reply .number ≡ 0 → Up p book out
 unfolding upOf
-up-made book out = go (isTwo book) refl (contentsOf book) refl
+up-made p book out = go (validPanel p) refl (isTwo book) refl (contentsOf book) refl
   where
-    go : (t : Bool) → isTwo book ≡ t → (x : Contents) → contentsOf book ≡ x → cond t (notMoved 9 0 out) (upIn book x out) .reply .number ≡ 0 → Up book out
-    go true t x h z = absurd (omega arith)
-    go false t (wrong place) h z = absurd (omega arith)
-    go false t (sound bs) h z = fits (leb (length laid) 32768) refl z
+    go : (v : Bool) → validPanel p ≡ v → (t : Bool) → isTwo book ≡ t → (x : Contents) → contentsOf book ≡ x
+        → cond v (cond t (notMoved 9 0 out) (upIn p book x out)) (notMoved 1 0 out) .reply .number ≡ 0 → Up p book out
+    go false v t f x h z = absurd (omega arith)
+    go true v true t x h z = absurd (omega arith)
+    go true v false t (wrong place) h z = absurd (omega arith)
+    go true v false t (sound bs) h z = read (bodiesRead p book 0 bs) refl (leb (length laid) 32768) refl z
       where
         laid : List ℕ
         laid = laidOut true (screensOf book bs)
 
-        fits : (v : Bool) → leb (length laid) 32768 ≡ v → cond v (fitted laid out) (notMoved 18 (length laid) out) .reply .number ≡ 0 → Up book out
-        fits false e z = absurd (omega arith)
-        fits true e z =
+        read : (y : BodiesRead) → bodiesRead p book 0 bs ≡ y → (w : Bool) → leb (length laid) 32768 ≡ w
+            → upRead y (cond w (fitted laid out) (notMoved 18 (length laid) out)) out .reply .number ≡ 0 → Up p book out
+        read (And i) q w e z = absurd (omega arith)
+        read (Faulty place) q w e z = absurd (omega arith)
+        read Plain q false e z = absurd (omega arith)
+        read Plain q true e z =
             record {
               bodies = bs;
               form = t;
               contents = h;
               short = leb-true (length laid) 32768 e;
-              bytes = ap (λ (v : Bool). movedBytes (cond v (notMoved 9 0 out) (upIn book (contentsOf book) out))) t ∙ ap (λ (y : Contents). movedBytes (upIn book y out)) h
-                  ∙ ap (λ (v : Bool). movedBytes (cond v (fitted laid out) (notMoved 18 (length laid) out))) e ∙ fitted-bytes laid out z;
+              bytes = (λ i. movedBytes (cond (v i) (cond (t i) (notMoved 9 0 out) (upIn p book (h i) out)) (notMoved 1 0 out)))
+                  ∙ (λ i. movedBytes (upRead (q i) (cond (e i) (fitted laid out) (notMoved 18 (length laid) out)) out)) ∙ fitted-bytes laid out z;
             }
 
 pub record Down (book out : List ℕ) : Type 0 where
@@ -133,18 +144,19 @@ down-laid ks back k f =
     ∙ ap (λ (v : Bool). cond v (fitted (laidOut false (screensOf book bs)) back) (notMoved 17 0 back)) (keyed-numbered 0 ks (firstBody true (length ks)) f)
     ∙ ap (λ (cs : List Kept). fitted (laidOut false cs) back) (laid-screens true ks k)
 
-up-laid : (ks : List Kept) (back : List ℕ) → Screens false ks → length (laidOut true ks) ≤ 32768 → upOf (laidOut false ks) back ≡ fitted (laidOut true ks) back
+up-laid : (p : Panel) (ks : List Kept) (back : List ℕ) → validPanel p ≡ true → Screens false ks → length (laidOut true ks) ≤ 32768
+    → bodiesRead p (laidOut false ks) 0 (bodiesFrom ks (firstBody false (length ks))) ≡ Plain → upOf p (laidOut false ks) back ≡ fitted (laidOut true ks) back
 unfolding upOf
-up-laid ks back k s =
+up-laid p ks back v k s r =
     let book : List ℕ = laidOut false ks in
-    ap (λ (v : Bool). cond v (notMoved 9 0 back) (upIn book (contentsOf book) back)) (laid-form false ks k)
-    ∙ ap (λ (x : Contents). upIn book x back) (laid-contents false ks k)
-    ∙ ap (λ (cs : List Kept). fittedUp (laidOut true cs) back) (laid-screens false ks k)
-    ∙ ap (λ (v : Bool). cond v (fitted (laidOut true ks) back) (notMoved 18 (length (laidOut true ks)) back)) (le-leb (length (laidOut true ks)) 32768 s)
+    let bs : List Body = bodiesFrom ks (firstBody false (length ks)) in
+    (λ i. cond (v i) (cond (laid-form false ks k i) (notMoved 9 0 back) (upIn p book (laid-contents false ks k i) back)) (notMoved 1 0 back))
+    ∙ (λ i. upRead (r i) (fittedUp (laidOut true (laid-screens false ks k i)) back) back)
+    ∙ ap (λ (w : Bool). cond w (fitted (laidOut true ks) back) (notMoved 18 (length (laidOut true ks)) back)) (le-leb (length (laidOut true ks)) 32768 s)
 
 pub up-down : UpDown
-up-down book out back bytes z =
-    let u = up-made book out z in
+up-down p book out back bytes z =
+    let u = up-made p book out z in
     let ks : List Kept = screensOf book (u .bodies) in
     let n : Keyed false 0 ks = subst (λ (v : Bool). Keyed v 0 ks) (u .form) (sound-keyed book bytes (u .contents)) in
     ap (λ (l : List ℕ). downOf l back) (u .bytes)
@@ -152,11 +164,16 @@ up-down book out back bytes z =
     ∙ ap (λ (l : List ℕ). fitted l back) (sym (own-screens book bytes (u .contents) (u .form)))
 
 pub down-up : DownUp
-down-up book out back bytes z =
+down-up p book out back v bytes w z =
     let d = down-made book out z in
     let ks : List Kept = screensOf book (d .bodies) in
     let own = own-screens book bytes (d .contents) (d .form) in
     let l : length book ≡ length (laidOut true ks) = ap length own in
-    ap (λ (m : List ℕ). upOf m back) (d .bytes)
-    ∙ up-laid ks back (down-screens book bytes (d .contents) (d .form) (d .numbered)) (omega (arith, sound-book book (d .contents) .opens .short))
+    let k = down-screens book bytes (d .contents) (d .form) (d .numbered) in
+    let b = sound-book book (d .contents) in
+    let never : isTwo (laidOut false ks) ≡ true → isTwo book ≡ true = λ q. d .form in
+    let g = bodies-move p book (laidOut false ks) 0 (isTwo book) (entriesAt (isTwo book)) (firstBody (isTwo book) (length (d .bodies))) 0 (firstBody false (length ks)) (d .bodies) (b .entries)
+    (w (d .bodies) (d .contents)) (laid-bodies false ks k) (omega (arith, laid-length false ks)) never in
+    ap (λ (m : List ℕ). upOf p m back) (d .bytes)
+    ∙ up-laid p ks back v k (omega (arith, b .opens .short)) g
     ∙ ap (λ (m : List ℕ). fitted m back) (sym own)

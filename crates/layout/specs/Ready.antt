@@ -1,13 +1,20 @@
 -- The screens of a book by the tables of its contents, as they are laid out.
 use Prim.Native.Nat.{ℕ, zero, suc, _+_, _-_, _<_, _≤_}
 use mathlib.Core.Path.{_≡_}
-use mathlib.Core.Bool.{Bool, true, _&&_}
+use mathlib.Core.Bool.{Bool, true, false, _&&_}
 use mathlib.Core.List.{List, [], _∷_, _++_}
 use lib.Dec.{eqb}
 use lib.ListN.{getD}
 use lib.Seq.{sets}
 use Rattle.contents.specs.declared.open.Spans.{Spans}
 use Rattle.contents.specs.Contents.{firstBody}
+use Rattle.state.specs.declared.panel.Panel.{Panel}
+use Rattle.book.specs.declared.operation.Placed.{Placed}
+use Rattle.book.specs.declared.operation.Placed.the-variants.{Text, Rectangle, Dot, Glyph, Cursor, Combine}
+use Rattle.book.specs.Screen.{operationsFrom}
+use Rattle.layout.specs.declared.reading.BodiesRead.{BodiesRead}
+use Rattle.layout.specs.declared.reading.BodiesRead.the-variants.{Plain}
+use Rattle.layout.specs.Uses.{andMode, bodyRead, readBefore}
 use Rattle.layout.specs.Laid.{Kept, entryBytes, bytesBetween}
 
 -- bytes put into an output from a place on
@@ -43,6 +50,25 @@ entriesFor two s (suc left) i start =
 -- the bytes of a book with these screens
 abbrev pub laidSize : Bool → Spans → ℕ
 laidSize two s = firstBody two (s .count) + sizesFrom s (s .count) 0
+
+-- operation 6 with 2, as it stands in the book
+abbrev pub placedAnd : Placed → Bool
+placedAnd (Text line column from n) = false
+placedAnd (Rectangle top column height width value) = false
+placedAnd (Dot x y on) = false
+placedAnd (Glyph code from) = false
+placedAnd (Cursor line column height blink) = false
+placedAnd (Combine k) = andMode k
+
+-- so many bodies from one on, read on a panel
+unfoldable pub readFrom : Panel → Spans → List ℕ → ℕ → ℕ → BodiesRead
+readFrom p s book zero i = Plain
+readFrom p s book (suc left) i =
+    readBefore
+    (bodyRead
+    (operationsFrom (getD (s .ends) i 0 - getD (s .starts) i 0) p book (getD (s .starts) i 0) (getD (s .ends) i 0)))
+    i
+    (readFrom p s book left (i + 1))
 
 -- every body lies inside a book of so many bytes
 pub record Spanned (s : Spans) (most : ℕ) : Type 0 where

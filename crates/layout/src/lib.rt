@@ -2,3 +2,4 @@
 mod lay;
 pub mod moves;
 mod put;
+mod reading;

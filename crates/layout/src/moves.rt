@@ -1,15 +1,19 @@
 // A book moved from form one up to form two, or down again.
 ghost use mathlib.Core.Path.{_≡_};
+ghost use mathlib.Core.Bool.{true};
 ghost use Prim.Native.Nat.{_≤_};
 ghost use lib.ListN.{length};
 ghost use Rattle.layout.specs.Laid.{laidOut};
 ghost use Rattle.layout.specs.Ready.{keptIn, keysNumbered, laidSize, Spanned};
-ghost use Rattle.layout.specs.Moved.{movedAll, notMoved, fitted, upOf, downOf};
+ghost use Rattle.layout.specs.Moved.{movedAll, fitted, fittedUp, upOf, downOf};
 use super::lay::laid_size;
 use super::lay::lay;
+use super::reading::BodiesRead;
+use super::reading::read_bodies;
 use contents::bytes::byte_at;
 use contents::open::Spans;
 use contents::open::open;
+use state::panel::Panel;
 
 // A number and place, and the bytes of the moved book, 0 where it was refused.
 pub struct Moved {
@@ -61,10 +65,25 @@ fn numbered(spans: Spans) -> bool
     true
 }
 
-// From form one to form two: the screens' numbers become their identities.
-pub fn move_up(book: &[u8], out: &mut [u8]) -> Moved
-    ensures { λ r. ⌜ movedAll r (now (out .exit)) ≡ upOf (now (book .entry)) (now (out .entry)) ⌝ }
+// The book in form two, where it is short enough.
+fn fit_up(spans: Spans, book: &[u8], out: &mut [u8]) -> Moved
+    requires { ⌜ Spanned spans (length (now book)) ⌝ }
+    ensures { λ r. ⌜ movedAll r (now (out .exit)) ≡ fittedUp (laidOut true (keptIn spans (now (book .entry)))) (now (out .entry)) ⌝ }
 {
+    let size = laid_size(true, spans);
+    if 32768 < size {
+        return refuse(18, size);
+    }
+    fit(true, spans, book, out)
+}
+
+// From form one to form two: the screens' numbers become their identities. Every body is read on the panel, and none may use AND.
+pub fn move_up(panel: Panel, book: &[u8], out: &mut [u8]) -> Moved
+    ensures { λ r. ⌜ movedAll r (now (out .exit)) ≡ upOf panel (now (book .entry)) (now (out .entry)) ⌝ }
+{
+    if !panel.valid() {
+        return refuse(1, 0);
+    }
     if byte_at(book, 0) == 0 {
         return refuse(9, 0);
     }
@@ -72,11 +91,12 @@ pub fn move_up(book: &[u8], out: &mut [u8]) -> Moved
     if spans.number != 0 {
         return refuse(9, spans.place);
     }
-    let size = laid_size(true, spans);
-    if 32768 < size {
-        return refuse(18, size);
+    let read = read_bodies(panel, book, spans);
+    match read {
+        BodiesRead::Plain => fit_up(spans, book, out),
+        BodiesRead::And(screen) => refuse(19, screen),
+        BodiesRead::Faulty(place) => refuse(11, place),
     }
-    fit(true, spans, book, out)
 }
 
 // From form two to form one, where the identities are 0 to n-1.

@@ -16,6 +16,9 @@ read-whole-requires c κs = search needs
 returns : tie.Need-returns
 returns c = search needs
 
+arg-count-requires : tie.Need-arg-count-requires
+arg-count-requires c κs = search needs
+
 array-share-prefix-input : tie.Need-array-share-prefix-input
 array-share-prefix-input c = search needs
 
@@ -68,6 +71,7 @@ main-spec =
     slice-aggregate-read-whole
     read-whole-requires
     returns
+    arg-count-requires
     array-share-prefix-input
     slice-aggregate-moved
     slice-aggregate-moved-2
