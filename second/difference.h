@@ -2,7 +2,7 @@
 #ifndef DIFFERENCE_H
 #define DIFFERENCE_H
 
-#include "opened.h"
+#include "screens.h"
 
 /* 0, 1, 9, 10 for A then B, 11 for A then B, or 12. On a controller that has run A's stream, and since then only ticks
    and status reads, the stream shows B. It fills the room's start; else the room is unchanged. */

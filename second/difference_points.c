@@ -82,12 +82,13 @@ static void by_hand(void)
 
 static void dual(void)
 {
-    static const unsigned char two[] = {2, 9, 0, 0, 0, 9, 0, 10, 0, 1, 3, 0, 1, 0x42, 5, 2, 1, 1, 0};
+    static const unsigned char two[] = {0, 2, 3, 0, 14, 0, 0, 0, 0x2C, 1, 14, 0, 10, 0, 1, 3, 0, 1, 0x42, 5, 2, 1, 1, 0};
     static const unsigned char expected[] = {0, 9, 0, 0x80, 1, 0x24, 0, 0x42, 1, 0xC4, 1, 0x80, 0, 1, 0, 16, 1, 0x21, 1, 0xA0, 1, 0x9E};
     static const struct second_panel halves = {3, 4, 8, 1};
-    struct second_write_reply reply = second_write_difference(&halves, two, sizeof two, 0, 1, room, ROOM);
-    point("a dual panel: text at 8000H, Y 16",
+    struct second_write_reply reply = second_write_difference(&halves, two, sizeof two, 3, 300, room, ROOM);
+    point("a dual panel and form two: text at 8000H, Y 16, identities 3 and 300",
           reply.number == 0 && reply.pairs == 11 && memcmp(room, expected, sizeof expected) == 0);
+    point("an identity not present: 10", second_write_difference(&halves, two, sizeof two, 3, 1, room, ROOM).number == 10);
 }
 
 static int refuses(const unsigned char *bytes, unsigned long length, unsigned long a, unsigned long b, unsigned long room_length,
@@ -138,7 +139,7 @@ static unsigned char graphic[20480], text[2560], glyphs[1024], picture[20480], f
 static struct second_panel p;
 
 static struct {
-    unsigned long pairs, same, cursors, refused, dual, shorter;
+    unsigned long pairs, same, cursors, refused, dual, form_two, shorter;
 } seen;
 
 static void draw_registers(struct generate_random *random, struct second_registers *registers)
@@ -223,9 +224,9 @@ static int streams_agree(struct generate_random *random, const unsigned char *by
     return memcmp(by_full, by_short, sizeof by_full) == 0 && shows(&registers, by_short, bytes, length, b);
 }
 
-static int agree(unsigned long long seed, unsigned is_dual)
+static int agree(unsigned long long seed, unsigned is_dual, unsigned form)
 {
-    struct generate_book_reply made = is_dual ? generate_dual_book(seed, input) : generate_book(seed, input);
+    struct generate_book_reply made = generate_book_for(seed, is_dual, form, input);
     struct generate_random random;
     const unsigned char *bytes = input + GENERATE_BOOK_HEAD;
     unsigned long length = made.length - GENERATE_BOOK_HEAD, a, b, screen, i;
@@ -237,7 +238,8 @@ static int agree(unsigned long long seed, unsigned is_dual)
     p.width = input[2];
     p.dual = is_dual;
     for (i = 0, screen = input[3]; i < 4 && screen == input[3]; i++) {
-        screen = generate_below(&random, bytes[0]); /* mostly another one, which may be wrong */
+        screen = generate_below(&random, (unsigned)made.screens); /* mostly another one, which may be wrong */
+        if (form == 2) screen = bytes[2 + 6 * screen] + 256UL * bytes[3 + 6 * screen];
     }
     a = seed % 2 ? input[3] : screen;
     b = seed % 2 ? screen : input[3];
@@ -251,6 +253,7 @@ static int agree(unsigned long long seed, unsigned is_dual)
         }
     }
     if (is_dual) seen.dual++;
+    if (form == 2) seen.form_two++;
     return streams_agree(&random, bytes, length, a, b);
 }
 
@@ -259,17 +262,17 @@ static void at_random(unsigned long long seeds)
     unsigned long long seed;
     int holds = 1;
     for (seed = 1; seed <= seeds; seed++) {
-        if (!agree(seed, 0) || !agree(seed, 1)) {
+        if (!agree(seed, 0, 1) || !agree(seed, 1, 1) || !agree(seed, 0, 2) || !agree(seed, 1, 2)) {
             if (holds) printf("# seed %llu\n", seed);
             holds = 0;
         }
     }
-    printf("# %lu pairs of screens: alike %lu, with cursor %lu, shorter than the full stream %lu, dual %lu; refused %lu\n",
-           seen.pairs, seen.same, seen.cursors, seen.shorter, seen.dual, seen.refused);
+    printf("# %lu pairs of screens: alike %lu, with cursor %lu, shorter than the full stream %lu, dual %lu, form two %lu; refused %lu\n",
+           seen.pairs, seen.same, seen.cursors, seen.shorter, seen.dual, seen.form_two, seen.refused);
     point("random screens: both streams leave the same bytes and B's picture in either phase, and the count is as given", holds);
-    point("screens alike and not, with cursor and without, both panels, refused ones",
-          seen.pairs > seeds / 2 && seen.same > seeds / 10 && seen.same < seen.pairs / 2 && seen.cursors > seeds / 10
-          && seen.shorter > seeds / 2 && seen.dual > seeds / 4 && seen.refused > seeds / 20);
+    point("screens alike and not, with cursor and without, both panels and forms, refused ones",
+          seen.pairs > seeds && seen.same > seeds / 10 && seen.same < seen.pairs / 2 && seen.cursors > seeds / 10
+          && seen.shorter > seeds / 2 && seen.dual > seeds / 4 && seen.form_two > seeds / 4 && seen.refused > seeds / 20);
 }
 
 int main(int argc, char **argv)

@@ -81,7 +81,7 @@ struct shown {
 static struct shown before, after;
 
 static struct {
-    unsigned long exchanged[7][7], kept_back, would_show, screens, dual;
+    unsigned long exchanged[7][7], kept_back, would_show, screens, dual, form_two;
 } seen;
 
 static unsigned long operation_length(const unsigned char *operation)
@@ -189,20 +189,12 @@ static int exchange_all(struct generate_random *random, unsigned long begin, uns
     return 1;
 }
 
-static unsigned long word(const unsigned char *at)
+static int agree(unsigned long long seed, unsigned dual, unsigned form)
 {
-    return at[0] + 256UL * at[1];
-}
-
-static int agree(unsigned long long seed, unsigned dual)
-{
-    struct generate_book_reply made = dual ? generate_dual_book(seed, input) : generate_book(seed, input);
+    struct generate_book_reply made = generate_book_for(seed, dual, form, input);
     struct generate_random random;
-    unsigned long i, pairs, begin, end;
-    if (made.number != 0 || made.pairs > 30000) return 1;
-    begin = word(input + GENERATE_BOOK_HEAD + 1 + 4UL * input[3]);
-    end = begin + word(input + GENERATE_BOOK_HEAD + 3 + 4UL * input[3]);
-    if (end - begin > 3000) return 1;
+    unsigned long i, pairs;
+    if (made.number != 0 || made.pairs > 30000 || made.end - made.begin > 3000) return 1;
     random.word = ~seed;
     for (i = 0; i < sizeof rom; i++) rom[i] = (unsigned char)generate_below(&random, 256);
     for (i = 0; i < sizeof start_memory; i++) start_memory[i] = (unsigned char)generate_below(&random, 256);
@@ -214,11 +206,12 @@ static int agree(unsigned long long seed, unsigned dual)
     memcpy(book, input + GENERATE_BOOK_HEAD, length);
     memcpy(changed, book, length);
     if (!draw(book, input[3], &before)) return 0;
-    if (!exchange_all(&random, begin, end, input[3])) return 0;
+    if (!exchange_all(&random, made.begin, made.end, input[3])) return 0;
     pairs = run(book, input[3], memory);
     if (pairs == 0 || run(changed, input[3], other) != pairs || pairs != made.pairs) return 0;
     seen.screens++;
     if (dual) seen.dual++;
+    if (form == 2) seen.form_two++;
     return memcmp(memory, other, sizeof memory) == 0;
 }
 
@@ -228,7 +221,7 @@ static void at_random(unsigned long long seeds)
     unsigned i, j, kinds = 0;
     int holds = 1;
     for (seed = 1; seed <= seeds; seed++) {
-        if (!agree(seed, 0) || !agree(seed, 1)) {
+        if (!agree(seed, 0, 1) || !agree(seed, 1, 1) || !agree(seed, 0, 2) || !agree(seed, 1, 2)) {
             if (holds) printf("# seed %llu\n", seed);
             holds = 0;
         }
@@ -238,12 +231,12 @@ static void at_random(unsigned long long seeds)
             if (seen.exchanged[i][j] > 0) kinds++;
         }
     }
-    printf("# %lu screens, dual %lu; pairs of numbers exchanged %u of 34; kept back %lu, that would show %lu\n",
-           seen.screens, seen.dual, kinds, seen.kept_back, seen.would_show);
+    printf("# %lu screens, dual %lu, form two %lu; pairs of numbers exchanged %u of 34; kept back %lu, that would show %lu\n",
+           seen.screens, seen.dual, seen.form_two, kinds, seen.kept_back, seen.would_show);
     point("random exchanges: the same picture, the same bytes in all memory, as many pairs", holds);
     point("all pairs of numbers but two cursors and two combinations are exchanged", kinds == 34);
     point("neighbours kept back whose exchange would show", seen.would_show > seeds / 10 && seen.would_show < seen.kept_back);
-    point("both panels", seen.dual > seeds / 4);
+    point("both panels and forms", seen.dual > seeds / 4 && seen.form_two > seeds / 4);
 }
 
 int main(int argc, char **argv)

@@ -1,7 +1,5 @@
 #include "screens.h"
 
-#define GRAPHIC_HOME 0x0000UL
-#define GLYPHS_START 0xFC00UL
 #define GLYPHS_OFFSET 0x1F
 
 enum { TEXT = 1, RECTANGLE, DOT, GLYPH, CURSOR, COMBINATION };
@@ -77,8 +75,7 @@ unsigned second_book_open(const unsigned char *bytes, unsigned long length, stru
     return 0;
 }
 
-/* The index of the screen asked for, by number or by identity; n if there is none. */
-static unsigned long find_screen(const struct second_book *book, unsigned long screen)
+unsigned long second_find_screen(const struct second_book *book, unsigned long screen)
 {
     unsigned long index;
     for (index = 0; index < book->screens; index++) {
@@ -190,7 +187,7 @@ static unsigned screen_number(const struct second_panel *panel, const unsigned c
     struct second_book book;
     unsigned long index, wrong;
     if (second_book_open(bytes, length, &book, place) != 0) return 9;
-    index = find_screen(&book, screen);
+    index = second_find_screen(&book, screen);
     if (index == book.screens) return 10;
     *body = second_book_body(&book, index);
     wrong = second_first_wrong(panel, &book, *body);
@@ -257,7 +254,7 @@ static void store_value(struct stream *stream, unsigned long address, unsigned v
 }
 
 /* The graphic bytes of a dual panel may reach past 4000H. */
-static unsigned long text_home(const struct second_panel *panel)
+unsigned long second_text_home(const struct second_panel *panel)
 {
     return panel->dual ? 0x8000 : 0x4000;
 }
@@ -270,21 +267,21 @@ static unsigned long opening_pairs(const struct second_panel *panel)
 static void write_opening(struct stream *stream, const struct second_panel *panel)
 {
     command(stream, 0xB2);
-    command_with_address(stream, text_home(panel), 0x40);
+    command_with_address(stream, second_text_home(panel), 0x40);
     command_with(stream, panel->columns, 0, 0x41);
-    command_with_address(stream, GRAPHIC_HOME, 0x42);
+    command_with_address(stream, SECOND_GRAPHIC_HOME, 0x42);
     command_with(stream, panel->columns, 0, 0x43);
     command_with(stream, GLYPHS_OFFSET, 0, 0x22);
     command(stream, 0x80);
     command(stream, 0x9C);
-    store_value(stream, GRAPHIC_HOME, 0, second_graphic_length(panel));
-    store_value(stream, text_home(panel), 0, second_text_length(panel));
-    store_value(stream, GLYPHS_START, 0, SECOND_GLYPHS_LENGTH);
+    store_value(stream, SECOND_GRAPHIC_HOME, 0, second_graphic_length(panel));
+    store_value(stream, second_text_home(panel), 0, second_text_length(panel));
+    store_value(stream, SECOND_GLYPHS_START, 0, SECOND_GLYPHS_LENGTH);
 }
 
 static unsigned long graphic_address(const struct second_panel *panel, unsigned row, unsigned column)
 {
-    return GRAPHIC_HOME + (unsigned long)row * panel->columns + column;
+    return SECOND_GRAPHIC_HOME + (unsigned long)row * panel->columns + column;
 }
 
 static void write_rectangle(struct stream *stream, const struct second_panel *panel, unsigned top, unsigned column,
@@ -302,7 +299,7 @@ static void write_dot(struct stream *stream, const struct second_panel *panel, u
 }
 
 /* The lower half of a dual panel counts its lines from Y 16. */
-static unsigned cursor_y(const struct second_panel *panel, unsigned line)
+unsigned second_cursor_y(const struct second_panel *panel, unsigned line)
 {
     unsigned half = panel->lines / 2;
     if (panel->dual && line >= half) return 16 + line - half;
@@ -312,7 +309,7 @@ static unsigned cursor_y(const struct second_panel *panel, unsigned line)
 static void write_cursor(struct stream *stream, const struct second_panel *panel, unsigned line, unsigned column,
                          unsigned height, unsigned blink)
 {
-    command_with(stream, column, cursor_y(panel, line), 0x21);
+    command_with(stream, column, second_cursor_y(panel, line), 0x21);
     command(stream, 0xA0 + height - 1);
     command(stream, blink == 0 ? 0x9E : 0x9F);
 }
@@ -328,7 +325,7 @@ static void write_operation(struct stream *stream, const struct second_panel *pa
     const unsigned char *field = operation + 1;
     switch (operation[0]) {
     case TEXT:
-        store_bytes(stream, text_home(panel) + (unsigned long)field[0] * panel->columns + field[1],
+        store_bytes(stream, second_text_home(panel) + (unsigned long)field[0] * panel->columns + field[1],
                     field + 3, field[2]);
         break;
     case RECTANGLE:
@@ -338,7 +335,7 @@ static void write_operation(struct stream *stream, const struct second_panel *pa
         write_dot(stream, panel, dot_x(operation), field[2], field[3]);
         break;
     case GLYPH:
-        store_bytes(stream, GLYPHS_START + 8UL * (field[0] - 0x80U), field + 1, 8);
+        store_bytes(stream, SECOND_GLYPHS_START + 8UL * (field[0] - 0x80U), field + 1, 8);
         break;
     case CURSOR:
         write_cursor(stream, panel, field[0], field[1], field[2], field[3]);

@@ -7,6 +7,8 @@
 #define SECOND_BOOK_LIMIT 32768UL
 #define SECOND_MOST_SCREENS 64
 #define SECOND_GLYPHS_LENGTH 1024UL
+#define SECOND_GRAPHIC_HOME 0x0000UL
+#define SECOND_GLYPHS_START 0xFC00UL
 
 struct second_write_reply {
     unsigned number;
@@ -55,6 +57,13 @@ unsigned long second_first_wrong(const struct second_panel *panel, const struct 
                                  struct second_body body);
 
 /* A screen is asked for by number in a book of form one, by identity in one of form two. */
+
+/* The index of the screen asked for in an open book; n if there is none. */
+unsigned long second_find_screen(const struct second_book *book, unsigned long screen);
+
+/* The writer's text home, and the Y it sends for a line. The panel is valid. */
+unsigned long second_text_home(const struct second_panel *panel);
+unsigned second_cursor_y(const struct second_panel *panel, unsigned line);
 
 /* 0, 1, 9, 10, 11 or 12. The stream, kind and byte of each pair, fills the room's start; else the room is unchanged. */
 struct second_write_reply second_write(const struct second_panel *panel,
