@@ -3,6 +3,7 @@ pub mod Bounds
 pub mod Cases
 pub mod Doors
 pub mod Dots
+pub mod OneRows
 pub mod Painted
 pub mod Passes
 pub mod Plain

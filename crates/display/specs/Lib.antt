@@ -4,3 +4,4 @@ pub mod Frame
 pub mod Drawable
 pub mod Shaded
 pub mod Layers
+pub mod OneRow

@@ -4,6 +4,7 @@ ghost use Prim.Native.Nat.{_*_};
 ghost use lib.ListN.{length};
 ghost use Rattle.ground.specs.Packing.{rowBytes};
 ghost use Rattle.display.specs.Frame.{frameOf, painted, paintOf};
+ghost use Rattle.display.specs.OneRow.{paintOneOf};
 ghost use Rattle.display.specs.Drawable.{Drawable};
 use super::layers::tables;
 use super::row::paint_row;
@@ -67,6 +68,56 @@ pub fn paint(panel: Panel, registers: Registers, mem: &[u8], rom: &[u8], frame: 
         if fits {
             let display = registers.display;
             paint_rows(panel, display, mem, rom, bytes, frame);
+            Reply {
+                number: 0,
+                place: 0,
+            }
+        } else {
+            Reply {
+                number: 2,
+                place: 0,
+            }
+        }
+    } else {
+        Reply {
+            number: 1,
+            place: 0,
+        }
+    }
+}
+
+// One dot row, any, in a buffer of just its bytes, or a refusal that leaves it as it was.
+pub fn paint_one(
+    panel: Panel,
+    display: Display,
+    mem: &[u8],
+    rom: &[u8],
+    row: usize,
+    out: &mut [u8],
+) -> Reply
+    ensures { λ r. ⌜ painted r (now (out .exit)) ≡ paintOneOf panel display (now (mem .entry)) (now (rom .entry)) row (now (out .entry)) ⌝ }
+{
+    let valid = panel.valid() & display.valid();
+    if valid {
+        let bytes = panel.row_size();
+        let fits = (mem.len() == 65536) & (rom.len() == 1024) & (out.len() == bytes);
+        if fits {
+            let columns = panel.columns;
+            let mut lit = [0u8; 16];
+            let mut dark = [0u8; 16];
+            tables(panel, display, &mut lit, &mut dark);
+            let mut cells = [0u8; 80];
+            paint_row(
+                panel,
+                display,
+                mem,
+                rom,
+                &lit,
+                &dark,
+                row,
+                &mut cells[..columns],
+                out,
+            );
             Reply {
                 number: 0,
                 place: 0,

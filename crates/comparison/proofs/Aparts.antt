@@ -1,0 +1,118 @@
+-- Dots counted, one after the other, and rows added up.
+use mathlib.Core.Path.{_≡_, refl, ap, sym, _∙_}
+use mathlib.Core.Bool.{Bool, true, false, cond, not}
+use mathlib.Core.List.{List}
+use mathlib.Core.Logic.{⊎-elim}
+use Prim.Native.Nat.{ℕ, zero, suc, _+_, _-_, _*_, _/_, _%_, _<_, _≤_}
+use native.Mathlib.Numerals.{add-one}
+use native.Mathlib.Omega.{arith}
+use lib.Dec.{eqb}
+use lib.ListN.{length, getD}
+use borrow.Author.Tests.{eq-eqb}
+use Rattle.ground.specs.Bytes.{bitOf}
+use Rattle.state.specs.Sizes.{rowSize, validSize}
+use Rattle.state.proofs.Sizes.{is-size, bytes-few, dots-few}
+use Rattle.state.specs.State.{validPanel}
+use Rattle.display.specs.Frame.{dotOf, rowOf, replyOf, Painted, painted}
+use Rattle.display.specs.OneRow.{paintOneOf}
+use Rattle.display.specs.Types.{Reply}
+use Rattle.display.proofs.OneRows.{row-dot, one-is}
+use Rattle.comparison.specs.Types.{Panel, Display}
+use Rattle.comparison.specs.Apart.{howMany, addedUp, rowApart, dotsApart}
+use Rattle.comparison.specs.Ready.{Pictured}
+
+pub many-few : (n : ℕ) (test : ℕ → Bool) → howMany n test ≤ n
+unfolding howMany
+many-few zero test = omega arith
+many-few (suc n) test = go (test n) (many-few n test)
+  where
+    go : (t : Bool) → howMany n test ≤ n → howMany n test + cond t 1 0 ≤ suc n
+    go true h = omega arith
+    go false h = omega arith
+
+many-cong : (n : ℕ) (f g : ℕ → Bool) → ((x : ℕ) → x < n → f x ≡ g x) → howMany n f ≡ howMany n g
+unfolding howMany
+many-cong zero f g h = refl
+many-cong (suc n) f g h = λ i. many-cong n f g (λ x l. h x (omega arith)) i + cond (h n (omega arith) i) 1 0
+
+pub many-none : (n : ℕ) (test : ℕ → Bool) → ((x : ℕ) → test x ≡ false) → howMany n test ≡ 0
+unfolding howMany
+many-none zero test h = refl
+many-none (suc n) test h = λ i. many-none n test h i + cond (h n i) 1 0
+
+pub added-none : (n : ℕ) (f : ℕ → ℕ) → ((x : ℕ) → f x ≡ 0) → addedUp n f ≡ 0
+unfolding addedUp
+added-none zero f h = refl
+added-none (suc n) f h = λ i. added-none n f h i + h n i
+
+turned : (t : Bool) → _≡_ {A = ℕ} (cond (not t) 1 0) (cond t 0 1)
+turned true = refl
+turned false = refl
+
+-- a test that holds where two numbers differ
+abbrev pub unlike : (ℕ → ℕ) → (ℕ → ℕ) → ℕ → Bool
+unlike f g x = not (eqb (f x) (g x))
+
+pub many-begins : (test : ℕ → Bool) → 0 ≡ howMany 0 test
+unfolding howMany
+many-begins test = refl
+
+pub many-on : (f g : ℕ → ℕ) {count n a b d : ℕ} → count ≡ howMany n (unlike f g) → a ≡ f n → b ≡ g n → d ≡ cond (eqb a b) 0 1
+    → count + d ≡ howMany (n + 1) (unlike f g)
+unfolding howMany
+many-on f g {count} {n} {a} {b} {d} k h i e =
+    (λ j. k j + (e ∙ (λ q. cond (eqb (h q) (i q)) 0 1) ∙ sym (turned (eqb (f n) (g n)))) j)
+    ∙ ap (λ (m : ℕ). howMany m (unlike f g)) (sym (add-one n))
+
+-- bit 7 - x mod 8 of byte x div 8
+abbrev pub bitIn : List ℕ → ℕ → ℕ
+bitIn l x = bitOf (getD l (x / 8) 0) (7 - x % 8)
+
+-- two rows painted, and the bits in them that differ
+pub row-apart : (p : Panel) (d : Display) (mem : List ℕ) (e : Display) (memory rom : List ℕ) (r : ℕ) {a b : List ℕ} {count : ℕ}
+    → a ≡ rowOf p d mem rom r → b ≡ rowOf p e memory rom r → count ≡ howMany (p .columns * p .width) (unlike (bitIn a) (bitIn b))
+    → count ≡ rowApart p d mem e memory rom r
+row-apart p d mem e memory rom r {a} {b} h k c =
+    c ∙ many-cong (p .columns * p .width) (unlike (bitIn a) (bitIn b)) (unlike (dotOf p d mem rom r) (dotOf p e memory rom r))
+    (λ x l. λ i. not (eqb ((ap (λ (y : List ℕ). bitIn y x) h ∙ row-dot p d mem rom r x (omega (arith, l))) i) ((ap (λ (y : List ℕ). bitIn y x) k ∙ row-dot p e memory rom r x (omega (arith, l))) i)))
+
+-- a row painted, where it may be
+pub painted-row : (p : Panel) (d : Display) (mem : List ℕ) (e : Display) (memory rom : List ℕ) (r : ℕ) → Pictured p d mem e memory rom
+    → (out : List ℕ) {x : Reply} {l : List ℕ} → length out ≡ rowSize p → painted x l ≡ paintOneOf p d mem rom r out → l ≡ rowOf p d mem rom r
+painted-row p d mem e memory rom r k out h q =
+    ap (λ (o : Painted). o .frame) (q ∙ one-is p d mem rom r out (k .panel) (k .one) (k .first) h)
+
+pub other-row : (p : Panel) (d : Display) (mem : List ℕ) (e : Display) (memory rom : List ℕ) (r : ℕ) → Pictured p d mem e memory rom
+    → (out : List ℕ) {x : Reply} {l : List ℕ} → length out ≡ rowSize p → painted x l ≡ paintOneOf p e memory rom r out → l ≡ rowOf p e memory rom r
+other-row p d mem e memory rom r k out h q =
+    ap (λ (o : Painted). o .frame) (q ∙ one-is p e memory rom r out (k .panel) (k .two) (k .second) h)
+
+pub row-size-few : (p : Panel) → validPanel p ≡ true → {n : ℕ} → n ≡ validSize p (rowSize p) → n ≤ 80
+row-size-few p v e = omega (arith, is-size p v e, bytes-few p v)
+
+-- rows added up: each has at most 640 dots
+pub record Adding (p : Panel) (d : Display) (mem : List ℕ) (e : Display) (memory rom : List ℕ) (count row : ℕ) : Type 0 where
+  pub holds : count ≡ addedUp row (rowApart p d mem e memory rom)
+  pub few : count ≤ 640 * row
+
+module _ (p : Panel) (d : Display) (mem : List ℕ) (e : Display) (memory rom : List ℕ) where
+  pub adding : Adding p d mem e memory rom 0 0
+  unfolding addedUp
+  adding = record { holds = refl; few = omega arith }
+
+  module _ (v : validPanel p ≡ true) {count row : ℕ} (k : Adding p d mem e memory rom count row) where
+    pub row-few : {n : ℕ} → n ≡ rowApart p d mem e memory rom row → n ≤ 640
+    row-few h =
+        omega (arith, h, many-few (p .columns * p .width) (unlike (dotOf p d mem rom row) (dotOf p e memory rom row)), dots-few p v)
+
+    pub adds-on : {n : ℕ} → n ≡ rowApart p d mem e memory rom row → Adding p d mem e memory rom (count + n) (row + 1)
+    unfolding addedUp
+    adds-on {n} h =
+        record {
+          holds = (λ i. k .holds i + h i) ∙ ap (λ (m : ℕ). addedUp m (rowApart p d mem e memory rom)) (sym (add-one row));
+          few = omega (arith, k .few, row-few h);
+        }
+
+  pub added-all : {count row : ℕ} → Adding p d mem e memory rom count row → row ≡ 8 * p .lines → count ≡ dotsApart p d mem e memory rom
+  unfolding dotsApart
+  added-all k h = k .holds ∙ ap (λ (n : ℕ). addedUp n (rowApart p d mem e memory rom)) h

@@ -1,0 +1,6 @@
+pub mod Wholes
+pub mod Listings
+pub mod Aparts
+pub mod Copies
+pub mod Registries
+pub mod Verdicts

@@ -1,0 +1,66 @@
+-- `count_bytes` meets its contract: place by place.
+use mathlib.Core.Path.{refl}
+use Prim.Native.Nat.{_-_}
+use native.Mathlib.Omega.{arith}
+use lib.ListN.{length}
+use Rattle.comparison.proofs.Listings.{Counting, counting, counts-on, counted-all}
+use borrow.Author.Needs.{needs}
+use Rattle.comparison.proofs.list.count_bytes.Statement.{statement}
+use Rattle.comparison.proofs.list.count_bytes.Tie as tie
+
+abbrev Inv-loop : tie.InvT-loop
+Inv-loop one two count₀ i₀ i-end count i = Counting one two count i
+
+abbrev μ-loop : tie.MeasureT-loop
+μ-loop one two count₀ i₀ i-end count i = i-end - i
+
+loop-holds : tie.Need-loop-holds Inv-loop μ-loop
+loop-holds c = counting _ _
+
+shared-slice-read-wide : tie.Need-shared-slice-read-wide Inv-loop μ-loop
+shared-slice-read-wide c = search needs
+
+wide-requires : tie.Need-wide-requires Inv-loop μ-loop
+wide-requires c κs = search needs
+
+shared-slice-read-wide-2 : tie.Need-shared-slice-read-wide-2 Inv-loop μ-loop
+shared-slice-read-wide-2 c = search needs
+
+wide-requires-2 : tie.Need-wide-requires-2 Inv-loop μ-loop
+wide-requires-2 c κs = search needs
+
+differ-requires : tie.Need-differ-requires Inv-loop μ-loop
+differ-requires c κs = search needs
+
+add-count : tie.Need-add-count Inv-loop μ-loop
+add-count c = omega (arith, c .differ .ensures .1, c .before .before .before .before .before .before .loop .inv .few, c .before .before .before .before .before .loop-test .taken, c .before .before .before .before .before .before .before .before .before .good)
+
+add-i : tie.Need-add-i Inv-loop μ-loop
+add-i c = search needs
+
+loop-less : tie.Need-loop-less Inv-loop μ-loop
+loop-less c = search needs
+
+loop-again : tie.Need-loop-again Inv-loop μ-loop
+loop-again c = counts-on (c .before .before .before .before .before .before .loop .inv) (c .before .before .before .before .before .loop-test .taken) (c .before .before .before .before .before .before .before .before .before .pre) (c .before .before .before .wide .ensures) (c .before .wide2 .ensures) (c .differ .ensures .0)
+
+returns : tie.Need-returns Inv-loop μ-loop
+returns c = counted-all (c .before .loop .inv) (c .loop-test .left)
+
+pub count-bytes-spec : {M : Type 1} → statement M
+count-bytes-spec =
+    tie.close
+    (tie.spec
+    Inv-loop
+    μ-loop
+    loop-holds
+    shared-slice-read-wide
+    wide-requires
+    shared-slice-read-wide-2
+    wide-requires-2
+    differ-requires
+    add-count
+    add-i
+    loop-less
+    loop-again
+    returns)

@@ -1,0 +1,84 @@
+-- 02, Req 06: two logs from the same panel, memory and ROM, both from reset.
+use Prim.Native.Nat.{ℕ, _+_, _*_}
+use mathlib.Core.Bool.{Bool, cond, _&&_}
+use mathlib.Core.List.{List, _++_}
+use lib.Dec.{ltb, eqb}
+use lib.ListN.{length}
+use lib.Seq.{sets}
+use Rattle.state.specs.State.{validPanel, resetRegisters}
+use Rattle.comparison.specs.Types.{Panel, Registers}
+use Rattle.comparison.specs.declared.compare.Compared.{Compared}
+use Rattle.comparison.specs.Whole.{RanWhole, wholeOf}
+use Rattle.comparison.specs.Registered.{registerValues}
+use Rattle.comparison.specs.Listed.{Difference, differencesFrom, numbersOf}
+use Rattle.comparison.specs.Apart.{dotsApart}
+
+-- a reply, both memories and the list then
+pub record ComparedAll : Type 0 where
+  pub compared : Compared
+  pub one : List ℕ
+  pub two : List ℕ
+  pub list : List ℕ
+
+abbrev pub comparedAll : Compared → List ℕ → List ℕ → List ℕ → ComparedAll
+comparedAll c one two list = record { compared = c; one = one; two = two; list = list }
+
+-- a number, its place and the log it is of, 0 for neither; nothing is listed then
+abbrev pub uncompared : ℕ → ℕ → ℕ → Compared
+uncompared n place log = record { number = n; place = place; log = log; memory = 0; registers = 0; dots = 0 }
+
+-- two machines: their memories' differences, and their registers'
+abbrev pub memoryApart : RanWhole → RanWhole → List Difference
+memoryApart a b = differencesFrom 0 (a .memory) (b .memory)
+
+abbrev pub registersApart : RanWhole → RanWhole → List Difference
+registersApart a b = differencesFrom 0 (registerValues (a .ran .registers)) (registerValues (b .ran .registers))
+
+abbrev pub entriesOf : RanWhole → RanWhole → ℕ
+entriesOf a b = length (memoryApart a b) + length (registersApart a b)
+
+-- every address whose bytes differ, then every register that does, in the list's start; beside it the dots. 15 where it doesn't fit, with
+-- the entries needed
+unfoldable pub listedOf : Panel → List ℕ → List ℕ → RanWhole → RanWhole → ComparedAll
+listedOf p rom list a b =
+    cond (ltb (length list) (3 * entriesOf a b))
+    (comparedAll (uncompared 15 (entriesOf a b) 0) (a .memory) (b .memory) list)
+    (comparedAll
+    (record {
+      number = 0;
+      place = 0;
+      log = 0;
+      memory = length (memoryApart a b);
+      registers = length (registersApart a b);
+      dots = dotsApart p (a .ran .registers .display) (a .memory) (b .ran .registers .display) (b .memory) rom;
+    })
+    (a .memory)
+    (b .memory)
+    (sets list 0 (numbersOf (memoryApart a b ++ registersApart a b))))
+
+-- log two has run in the second memory
+unfoldable pub afterTwo : Panel → List ℕ → List ℕ → RanWhole → RanWhole → ComparedAll
+afterTwo p rom list a b =
+    cond (eqb (b .ran .number) 0)
+    (listedOf p rom list a b)
+    (comparedAll (uncompared (b .ran .number) (b .ran .place) 2) (a .memory) (b .memory) list)
+
+-- log one has run in the first memory; the second is a copy of it as it was
+unfoldable pub afterOne : Panel → List ℕ → List ℕ → List ℕ → List ℕ → RanWhole → ComparedAll
+afterOne p one rom log list a =
+    cond (eqb (a .ran .number) 0)
+    (afterTwo p rom list a (wholeOf p resetRegisters one rom log))
+    (comparedAll (uncompared (a .ran .number) (a .ran .place) 1) (a .memory) one list)
+
+-- two lent memories of 64 KiB each, and the ROM
+abbrev pub memoriesFit : List ℕ → List ℕ → List ℕ → Bool
+memoriesFit one two rom = eqb (length one) 65536 && eqb (length two) 65536 && eqb (length rom) 1024
+
+-- 1, 2; then those of log one, those of log two, 15
+unfoldable pub compareOf : Panel → List ℕ → List ℕ → List ℕ → List ℕ → List ℕ → List ℕ → ComparedAll
+compareOf p one two rom first second list =
+    cond (validPanel p)
+    (cond (memoriesFit one two rom)
+    (afterOne p one rom second list (wholeOf p resetRegisters one rom first))
+    (comparedAll (uncompared 2 0 0) one two list))
+    (comparedAll (uncompared 1 0 0) one two list)

@@ -1,0 +1,156 @@
+// Two logs, each run in a memory of its own.
+ghost use mathlib.Core.Path.{_≡_};
+ghost use mathlib.Core.Bool.{true};
+ghost use lib.ListN.{length};
+ghost use Rattle.state.specs.State.{validPanel, resetRegisters};
+ghost use Rattle.display.specs.Frame.{lentLengths};
+ghost use Rattle.comparison.specs.Whole.{ranWhole, wholeOf};
+ghost use Rattle.comparison.specs.Ready.{Pictured, Paints};
+ghost use Rattle.comparison.specs.Verdict.{uncompared, comparedAll, listedOf, afterTwo, afterOne, compareOf};
+use super::all::run_all;
+use super::dots::dots;
+use super::list::count_bytes;
+use super::list::count_values;
+use super::list::list_bytes;
+use super::list::list_values;
+use super::values::register_values;
+use controller::run::Ran;
+use state::panel::Panel;
+use state::registers::Registers;
+
+// A number, its place and the log that it is of, 0 for neither; the entries listed of memory, then of registers; the dots that differ.
+pub struct Compared {
+    pub number: u8,
+    pub place: usize,
+    pub log: u8,
+    pub memory: usize,
+    pub registers: usize,
+    pub dots: usize,
+}
+
+fn refused(number: u8, place: usize, log: u8) -> Compared
+    ensures { λ r. ⌜ r ≡ uncompared number place log ⌝ }
+{
+    Compared {
+        number,
+        place,
+        log,
+        memory: 0,
+        registers: 0,
+        dots: 0,
+    }
+}
+
+fn copy_bytes(from: &[u8], to: &mut [u8])
+    requires { ⌜ length (now from) ≡ length (now to) ⌝ }
+    ensures { λ _. ⌜ now (to .exit) ≡ now (from .entry) ⌝ }
+{
+    for i in 0..to.len() {
+        to[i] = from[i];
+    }
+}
+
+// What differs, counted before the list is touched.
+fn list_all(
+    panel: Panel,
+    first: Ran,
+    second: Ran,
+    one: &[u8],
+    two: &[u8],
+    rom: &[u8],
+    list: &mut [usize],
+) -> Compared
+    requires { ⌜ Pictured panel (first .registers .display) (now one) (second .registers .display) (now two) (now rom) ⌝ }
+    ensures { λ r. ⌜ comparedAll r (now (one .entry)) (now (two .entry)) (now (list .exit)) ≡ listedOf panel (now (rom .entry)) (now (list .entry)) (ranWhole first (now (one .entry))) (ranWhole second (now (two .entry))) ⌝ }
+{
+    let before = first.registers;
+    let after = second.registers;
+    let a = register_values(before);
+    let b = register_values(after);
+    let memory = count_bytes(one, two);
+    let registers = count_values(&a, &b);
+    let entries = memory + registers;
+    if list.len() < 3 * entries {
+        return refused(15, entries, 0);
+    }
+    list_bytes(one, two, list, 0);
+    list_values(&a, &b, list, 3 * memory);
+    let left = before.display;
+    let right = after.display;
+    let apart = dots(panel, left, right, one, two, rom);
+    Compared {
+        number: 0,
+        place: 0,
+        log: 0,
+        memory,
+        registers,
+        dots: apart,
+    }
+}
+
+// Log two in the second memory, behind log one.
+fn run_second(
+    panel: Panel,
+    first: Ran,
+    one: &[u8],
+    two: &mut [u8],
+    rom: &[u8],
+    log: &[u8],
+    list: &mut [usize],
+) -> Compared
+    requires { ⌜ Paints panel (first .registers .display) (now one) (now rom) ⌝ }
+    requires { ⌜ lentLengths (now two) (now rom) ≡ true ⌝ }
+    ensures { λ r. ⌜ comparedAll r (now (one .entry)) (now (two .exit)) (now (list .exit)) ≡ afterTwo panel (now (rom .entry)) (now (list .entry)) (ranWhole first (now (one .entry))) (wholeOf panel resetRegisters (now (two .entry)) (now (rom .entry)) (now (log .entry))) ⌝ }
+{
+    let registers = Registers::reset();
+    let second = run_all(panel, registers, two, rom, log);
+    if second.number != 0 {
+        return refused(second.number, second.place, 2);
+    }
+    list_all(panel, first, second, one, two, rom, list)
+}
+
+// Log one in the first memory, of which the second is a copy.
+fn run_both(
+    panel: Panel,
+    one: &mut [u8],
+    two: &mut [u8],
+    rom: &[u8],
+    log_one: &[u8],
+    log_two: &[u8],
+    list: &mut [usize],
+) -> Compared
+    requires { ⌜ (validPanel panel ≡ true) × (lentLengths (now one) (now rom) ≡ true) × (now two ≡ now one) ⌝ }
+    ensures { λ r. ⌜ comparedAll r (now (one .exit)) (now (two .exit)) (now (list .exit)) ≡ afterOne panel (now (one .entry)) (now (rom .entry)) (now («log_two» .entry)) (now (list .entry)) (wholeOf panel resetRegisters (now (one .entry)) (now (rom .entry)) (now («log_one» .entry))) ⌝ }
+{
+    let registers = Registers::reset();
+    let first = run_all(panel, registers, one, rom, log_one);
+    if first.number != 0 {
+        return refused(first.number, first.place, 1);
+    }
+    run_second(panel, first, one, two, rom, log_two, list)
+}
+
+// Both from reset: every address whose bytes differ, then every register that does, three numbers each, at the list's start.
+pub fn compare(
+    panel: Panel,
+    one: &mut [u8],
+    two: &mut [u8],
+    rom: &[u8],
+    log_one: &[u8],
+    log_two: &[u8],
+    list: &mut [usize],
+) -> Compared
+    ensures { λ r. ⌜ comparedAll r (now (one .exit)) (now (two .exit)) (now (list .exit)) ≡ compareOf panel (now (one .entry)) (now (two .entry)) (now (rom .entry)) (now («log_one» .entry)) (now («log_two» .entry)) (now (list .entry)) ⌝ }
+{
+    let valid = panel.valid();
+    if valid {
+        let fits = (one.len() == 65536) & (two.len() == 65536) & (rom.len() == 1024);
+        if fits {
+            copy_bytes(one, two);
+            return run_both(panel, one, two, rom, log_one, log_two, list);
+        }
+        return refused(2, 0, 0);
+    }
+    refused(1, 0, 0)
+}

@@ -1,0 +1,6 @@
+// Two logs side by side: what differs when both have run.
+pub mod all;
+pub mod compare;
+mod dots;
+mod list;
+pub mod values;
