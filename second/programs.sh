@@ -63,7 +63,7 @@ widened() {
 run_proved() {
     widened "$1" >"$work/wide"
     case $dual:$1 in
-    dual:draw | dual:rehearse | dual:layers | dual:xbm)
+    dual:draw | dual:rehearse | dual:layers | dual:xbm | dual:compare)
         cat "$root/tests/bench.rom" "$work/wide" >"$work/lent"
         run "$1" rom dual <"$work/lent"
         ;;
