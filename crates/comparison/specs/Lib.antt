@@ -6,3 +6,4 @@ pub mod Listed
 pub mod Apart
 pub mod Verdict
 pub mod Ready
+pub mod Claims
