@@ -17,7 +17,7 @@ use Rattle.comparison.specs.Registered.{flagNumber, combinationNumber, a
 use Rattle.comparison.specs.Listed.{Difference, difference, differencesFrom}
 use Rattle.comparison.specs.Apart.{rowApart, dotsApart}
 use Rattle.comparison.specs.Verdict.{memoryApart, registersApart, entriesOf}
-use Rattle.comparison.specs.Claims.{Agree, Same}
+use Rattle.comparison.specs.Claims.{AllAgree, Same}
 use Rattle.comparison.proofs.Registries.{values-length}
 use Rattle.comparison.proofs.Aparts.{many-none, added-none}
 
@@ -148,7 +148,7 @@ no-dots p d mem rom =
 pub same : Same
 same p rom a b v w h k l = (λ z. agree z, λ g. none g)
   where
-    agree : entriesOf a b ≡ 0 → Agree p rom a b
+    agree : entriesOf a b ≡ 0 → AllAgree p rom a b
     agree z =
         let m : a .memory ≡ b .memory = none-apart 0 (a .memory) (b .memory) l (omega (arith, z)) in
         let r : a .ran .registers ≡ b .ran .registers =
@@ -161,7 +161,7 @@ same p rom a b v w h k l = (λ z. agree z, λ g. none g)
           dots = (λ i. dotsApart p (a .ran .registers .display) (a .memory) (sym r i .display) (sym m i) rom) ∙ no-dots p (a .ran .registers .display) (a .memory) rom;
         }
 
-    none : Agree p rom a b → entriesOf a b ≡ 0
+    none : AllAgree p rom a b → entriesOf a b ≡ 0
     none g =
         (λ i. length (differencesFrom 0 (a .memory) (sym (g .memory) i)) + length (differencesFrom 0 (registerValues (a .ran .registers)) (registerValues (sym (g .registers) i))))
         ∙ (λ i. self-apart 0 (a .memory) i + self-apart 0 (registerValues (a .ran .registers)) i)

@@ -12,7 +12,7 @@ use Rattle.comparison.specs.Apart.{dotsApart}
 use Rattle.comparison.specs.Verdict.{entriesOf}
 
 -- two machines after their runs
-pub record Agree (p : Panel) (rom : List ℕ) (a b : RanWhole) : Type 0 where
+pub record AllAgree (p : Panel) (rom : List ℕ) (a b : RanWhole) : Type 0 where
   pub memory : a .memory ≡ b .memory
   pub registers : a .ran .registers ≡ b .ran .registers
   pub frames : frameOf p (a .ran .registers .display) (a .memory) rom ≡ frameOf p (b .ran .registers .display) (b .memory) rom
@@ -27,4 +27,4 @@ Same =
     → a .ran .registers .bus .pending .older < 256
     → b .ran .registers .bus .pending .older < 256
     → length (a .memory) ≡ length (b .memory)
-    → (entriesOf a b ≡ 0 → Agree p rom a b) × (Agree p rom a b → entriesOf a b ≡ 0)
+    → (entriesOf a b ≡ 0 → AllAgree p rom a b) × (AllAgree p rom a b → entriesOf a b ≡ 0)

@@ -92,10 +92,10 @@ pub fn paint_one(
     display: Display,
     mem: &[u8],
     rom: &[u8],
-    row: usize,
+    dot_row: usize,
     out: &mut [u8],
 ) -> Reply
-    ensures { λ r. ⌜ painted r (now (out .exit)) ≡ paintOneOf panel display (now (mem .entry)) (now (rom .entry)) row (now (out .entry)) ⌝ }
+    ensures { λ r. ⌜ painted r (now (out .exit)) ≡ paintOneOf panel display (now (mem .entry)) (now (rom .entry)) dot_row (now (out .entry)) ⌝ }
 {
     let valid = panel.valid() & display.valid();
     if valid {
@@ -114,7 +114,7 @@ pub fn paint_one(
                 rom,
                 &lit,
                 &dark,
-                row,
+                dot_row,
                 &mut cells[..columns],
                 out,
             );
