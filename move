@@ -17,7 +17,8 @@ TEXT
     book_help
     cat <<'TEXT'
 Standard output gets the same file with the moved book. Up gives the identities 0 to n-1, reads every screen on the panel, and takes none
-that uses AND, which form two does not know; down takes these identities and no others. Up and down again gives the same bytes. Where the book is refused there is nothing, and standard error has the reason.
+that uses AND, which form two does not know; down takes these identities and no others. Up and down again gives the same bytes. Where the
+book is refused there is nothing, and standard error has the reason.
 
   --dual             the panel is scanned in two halves: L 2 to 32, even
   -o, --output FILE  into FILE, which appears when it is whole; not where the book is refused
