@@ -42,6 +42,12 @@ fn digit(n: usize) -> u8 {
 
 fn put_address(at: usize, one: usize, two: usize) -> bool {
     let line = [
+        b'm',
+        b'e',
+        b'm',
+        b'o',
+        b'r',
+        b'y',
         b' ',
         digit(at / 4096),
         digit(at / 256),
@@ -55,8 +61,7 @@ fn put_address(at: usize, one: usize, two: usize) -> bool {
         digit(two),
         b'\n',
     ];
-    let named = io::write_all(STDOUT_FILENO, b"memory");
-    named & io::write_all(STDOUT_FILENO, &line)
+    io::write_all(STDOUT_FILENO, &line)
 }
 
 // In document 01's order.
