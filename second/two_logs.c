@@ -34,7 +34,7 @@ static struct second_run_reply run_all(const struct second_panel *panel, struct 
     unsigned char dropped[CHUNK];
     unsigned long taken = 0;
     for (;;) {
-        struct second_run_reply part = second_run(panel, registers, memory, SECOND_MEMORY_LENGTH,
+        struct second_run_reply part = second_run_stopping(panel, registers, memory, SECOND_MEMORY_LENGTH,
                                                            rom, SECOND_ROM_LENGTH, log + 2 * taken,
                                                            log_length - 2 * taken, CHUNK, dropped, CHUNK);
         if (part.number != 0) {
