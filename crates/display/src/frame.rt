@@ -92,10 +92,10 @@ pub fn paint_one(
     display: Display,
     mem: &[u8],
     rom: &[u8],
-    dot_row: usize,
+    at: usize,
     out: &mut [u8],
 ) -> Reply
-    ensures { λ r. ⌜ painted r (now (out .exit)) ≡ paintOneOf panel display (now (mem .entry)) (now (rom .entry)) dot_row (now (out .entry)) ⌝ }
+    ensures { λ r. ⌜ painted r (now (out .exit)) ≡ paintOneOf panel display (now (mem .entry)) (now (rom .entry)) at (now (out .entry)) ⌝ }
 {
     let valid = panel.valid() & display.valid();
     if valid {
@@ -114,7 +114,7 @@ pub fn paint_one(
                 rom,
                 &lit,
                 &dark,
-                dot_row,
+                at,
                 &mut cells[..columns],
                 out,
             );

@@ -29,7 +29,7 @@ tables-requires c κs =
     let e = c .before .before .before .before .if1 .taken in
     let m = c .before .before .before .row-size .ensures in
     let h = c .before .before .if2 .taken in
-    (one-drawable (a .panel) (a .display) (a .mem .now) (a .rom .now) (a .dot-row) (a .out .now) i j e m h .width, (refl, refl))
+    (one-drawable (a .panel) (a .display) (a .mem .now) (a .rom .now) (a .at) (a .out .now) i j e m h .width, (refl, refl))
 
 slice-aggregate-paint-row : tie.Need-slice-aggregate-paint-row
 slice-aggregate-paint-row c = search needs
@@ -45,7 +45,7 @@ array-borrow-prefix-cells c =
     let e = c .before .before .before .before .before .before .before .before .before .if1 .taken in
     let m = c .before .before .before .before .before .before .before .before .row-size .ensures in
     let h = c .before .before .before .before .before .before .before .if2 .taken in
-    one-drawable (a .panel) (a .display) (a .mem .now) (a .rom .now) (a .dot-row) (a .out .now) i j e m h .columns
+    one-drawable (a .panel) (a .display) (a .mem .now) (a .rom .now) (a .at) (a .out .now) i j e m h .columns
 
 slice-aggregate-paint-row-3 : tie.Need-slice-aggregate-paint-row-3
 slice-aggregate-paint-row-3 c =
@@ -55,7 +55,7 @@ slice-aggregate-paint-row-3 c =
     let e = c .before .before .before .before .before .before .before .before .before .before .if1 .taken in
     let m = c .before .before .before .before .before .before .before .before .before .row-size .ensures in
     let h = c .before .before .before .before .before .before .before .before .if2 .taken in
-    sym (length-take-le _ _ (one-drawable (a .panel) (a .display) (a .mem .now) (a .rom .now) (a .dot-row) (a .out .now) i j e m h .columns))
+    sym (length-take-le _ _ (one-drawable (a .panel) (a .display) (a .mem .now) (a .rom .now) (a .at) (a .out .now) i j e m h .columns))
 
 paint-row-requires : tie.Need-paint-row-requires
 paint-row-requires c κs =
@@ -65,7 +65,7 @@ paint-row-requires c κs =
     let e = c .before .before .before .before .before .before .before .before .before .before .before .if1 .taken in
     let m = c .before .before .before .before .before .before .before .before .before .before .row-size .ensures in
     let h = c .before .before .before .before .before .before .before .before .before .if2 .taken in
-    (one-drawable (a .panel) (a .display) (a .mem .now) (a .rom .now) (a .dot-row) (a .out .now) i j e m h, (c .before .before .before .before .before .before .tables .ensures, (length-take-le _ _ (one-drawable (a .panel) (a .display) (a .mem .now) (a .rom .now) (a .dot-row) (a .out .now) i j e m h .columns), one-length (a .panel) (a .display) (a .mem .now) (a .rom .now) (a .dot-row) (a .out .now) i j e m h)))
+    (one-drawable (a .panel) (a .display) (a .mem .now) (a .rom .now) (a .at) (a .out .now) i j e m h, (c .before .before .before .before .before .before .tables .ensures, (length-take-le _ _ (one-drawable (a .panel) (a .display) (a .mem .now) (a .rom .now) (a .at) (a .out .now) i j e m h .columns), one-length (a .panel) (a .display) (a .mem .now) (a .rom .now) (a .at) (a .out .now) i j e m h)))
 
 same-length : tie.Need-same-length
 same-length c = search needs
@@ -78,17 +78,17 @@ returns c =
     let e = c .before .before .before .before .before .before .before .before .before .before .before .before .before .before .before .if1 .taken in
     let m = c .before .before .before .before .before .before .before .before .before .before .before .before .before .before .row-size .ensures in
     let h = c .before .before .before .before .before .before .before .before .before .before .before .before .before .if2 .taken in
-    one-0 (a .panel) (a .display) (a .mem .now) (a .rom .now) (a .dot-row) (a .out .now) i j e m h (c .before .before .before .paint-row .ensures)
+    one-0 (a .panel) (a .display) (a .mem .now) (a .rom .now) (a .at) (a .out .now) i j e m h (c .before .before .before .paint-row .ensures)
 
 returns-2 : tie.Need-returns-2
 returns-2 c =
     let a = c .before .before .before .before .before .before .before .before .args in
-    one-2 (a .panel) (a .display) (a .mem .now) (a .rom .now) (a .dot-row) (a .out .now) (c .before .before .before .before .valid .ensures) (c .before .before .before .valid2 .ensures) (c .before .before .if1 .taken) (c .before .row-size .ensures) (c .if2 .left)
+    one-2 (a .panel) (a .display) (a .mem .now) (a .rom .now) (a .at) (a .out .now) (c .before .before .before .before .valid .ensures) (c .before .before .before .valid2 .ensures) (c .before .before .if1 .taken) (c .before .row-size .ensures) (c .if2 .left)
 
 returns-3 : tie.Need-returns-3
 returns-3 c =
     let a = c .before .before .before .before .before .before .args in
-    one-1 (a .panel) (a .display) (a .mem .now) (a .rom .now) (a .dot-row) (a .out .now) (c .before .before .valid .ensures) (c .before .valid2 .ensures) (c .if1 .left)
+    one-1 (a .panel) (a .display) (a .mem .now) (a .rom .now) (a .at) (a .out .now) (c .before .before .valid .ensures) (c .before .valid2 .ensures) (c .if1 .left)
 
 pub paint-one-spec : {M : Type 1} → statement M
 paint-one-spec =
