@@ -1,8 +1,11 @@
 pub mod Bodies
+pub mod Cuts
+pub mod Good
 pub mod Laying
 pub mod Layouts
 pub mod Moving
 pub mod Puts
+pub mod Salvages
 pub mod Sums
 pub mod Trips
 pub mod Uses

@@ -33,7 +33,7 @@ fn refuse(number: u8, place: usize) -> Moved
 }
 
 // The book laid out where the output has room for it, else 12.
-fn fit(two: bool, spans: Spans, book: &[u8], out: &mut [u8]) -> Moved
+pub(crate) fn fit(two: bool, spans: Spans, book: &[u8], out: &mut [u8]) -> Moved
     requires { ⌜ (Spanned spans (length (now book))) × (laidSize two spans ≤ 32768) ⌝ }
     ensures { λ r. ⌜ movedAll r (now (out .exit)) ≡ fitted (laidOut two (keptIn spans (now (book .entry)))) (now (out .entry)) ⌝ }
 {
