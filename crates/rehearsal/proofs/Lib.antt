@@ -7,5 +7,6 @@ pub mod Reordered
 pub mod Idles
 pub mod Shortened
 pub mod Changed
+pub mod Asked
 pub mod Rehearsals
 pub mod BenchPoints

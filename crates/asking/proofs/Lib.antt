@@ -1,0 +1,2 @@
+pub mod Spreads
+pub mod Asks

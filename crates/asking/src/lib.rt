@@ -1,0 +1,3 @@
+// A screen of a book becomes a stream that asks for status before each write.
+pub mod asking;
+mod spread;

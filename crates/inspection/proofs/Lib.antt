@@ -1,0 +1,3 @@
+pub mod Watches
+pub mod Owns
+pub mod Firsts
