@@ -147,6 +147,10 @@ static void bodies(void)
     point("the stream is that of the same body in form one", reply.pairs == opening + 6 && memcmp(room, other_room, 2 * reply.pairs) == 0);
     reply = second_write(&panel, book, sizeof two, 5, room, 2 * (opening + 6) - 1);
     point("12 as in form one", reply.number == 12 && reply.place == opening + 6);
+    reply = second_write_asking(&panel, book, sizeof two, 5, room, ROOM);
+    second_write_asking(&panel, one, sizeof one, 0, other_room, ROOM);
+    point("so is the asking stream", reply.pairs == 2 * (opening + 6) && memcmp(room, other_room, 2 * reply.pairs) == 0);
+    point("11 of the asking stream", second_write_asking(&panel, book, sizeof two, 9, room, 0).place == 21);
 }
 
 /* Moves. */

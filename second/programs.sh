@@ -46,7 +46,7 @@ built() {
 lift=
 widened() {
     case $1 in
-    write | draw | rehearse)
+    write | write_asking | draw | rehearse)
         if [ -n "$lift" ]; then
             "$work/lift" <"$work/in"
         elif [ "$(wc -c <"$work/in")" -lt 4 ]; then
@@ -63,7 +63,7 @@ widened() {
 run_proved() {
     widened "$1" >"$work/wide"
     case $dual:$1 in
-    dual:draw | dual:rehearse | dual:layers | dual:xbm | dual:compare)
+    dual:draw | dual:rehearse | dual:layers | dual:xbm | dual:compare | dual:inspect)
         cat "$root/tests/bench.rom" "$work/wide" >"$work/lent"
         run "$1" rom dual <"$work/lent"
         ;;

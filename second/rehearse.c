@@ -5,6 +5,7 @@
 #include <stdlib.h>
 #include <string.h>
 
+#include "asking.h"
 #include "generate.h"
 #include "generate_book.h"
 #include "screens.h"
@@ -32,7 +33,8 @@ static struct {
 
 static struct {
     int repeats, writer_replies, picture_replies, room, run, either_run, frames, planes, outside, nothing_changed;
-} holds = {1, 1, 1, 1, 1, 1, 1, 1, 1, 1};
+    int asking, passes;
+} holds = {1, 1, 1, 1, 1, 1, 1, 1, 1, 1, 1, 1};
 
 static void expect(int *property, int condition, unsigned long long seed, const char *what)
 {
@@ -211,6 +213,41 @@ static void rehearse_run(struct generate_random *random, unsigned long long seed
     }
 }
 
+/* The asking stream from a random state, with the controller's own answers beside it: it passes, and the plain one not. */
+static void rehearse_asking(struct generate_random *random, unsigned long long seed,
+                            const unsigned char *stream, unsigned long pairs)
+{
+    unsigned char *room = lend(4 * pairs), *answers = lend(pairs);
+    struct second_write_reply reply = second_write_asking(&lent.panel, lent.book, lent.book_length, lent.screen, room, 4 * pairs);
+    struct second_registers registers, start;
+    struct second_run_reply run;
+    struct second_check_reply check;
+    unsigned long i;
+    int same = reply.number == 0 && reply.pairs == 2 * pairs;
+    for (i = 0; i < pairs; i++) {
+        if (room[4 * i] != SECOND_STATUS_READ || room[4 * i + 1] != 0 || memcmp(room + 4 * i + 2, stream + 2 * i, 2) != 0) same = 0;
+    }
+    expect(&holds.asking, same, seed, "the asking stream is not the plain one with status reads");
+    draw_registers(random, &start);
+    registers = start;
+    memcpy(stopping, before, sizeof before);
+    run = second_run(&lent.panel, &registers, stopping, sizeof stopping, lent.rom, SECOND_ROM_LENGTH,
+                     room, 4 * pairs, ULONG_MAX, answers, pairs, NULL, 0);
+    expect(&holds.passes, run.number == 0 && run.answers == pairs && memcmp(memory, stopping, sizeof memory) == 0, seed,
+           "the asking stream leaves other memory");
+    memcpy(stopping, before, sizeof before);
+    check = second_check_log(&lent.panel, &start, stopping, sizeof stopping, lent.rom, SECOND_ROM_LENGTH,
+                             room, 4 * pairs, answers, pairs);
+    expect(&holds.passes, check.number == 0 && !check.unasked_named && !check.differing_named
+                          && memcmp(memory, stopping, sizeof memory) == 0, seed, "the asking stream does not pass");
+    check = second_check_log(&lent.panel, &start, stopping, sizeof stopping, lent.rom, SECOND_ROM_LENGTH,
+                             stream, 2 * pairs, answers, 0);
+    expect(&holds.passes, check.number == 0 && check.unasked_named && check.unasked == 0 && !check.differing_named, seed,
+           "the plain stream passes");
+    free(room);
+    free(answers);
+}
+
 /* Counts a body's operations and turns their order round. */
 static void turn_round(unsigned long begin, unsigned long end)
 {
@@ -245,6 +282,7 @@ static void rehearse_right(struct generate_random *random, unsigned long long se
            "a right screen is not written, or with other pairs");
     expect(&holds.room, untouched(room + 2 * pairs, tail), seed, "the room's rest is changed");
     rehearse_run(random, seed, room, pairs);
+    if (seed % 3 == 0) rehearse_asking(random, seed, room, pairs);
 
     turn_round(made->begin, made->end);
     draw(1);
@@ -340,6 +378,8 @@ int main(int argc, char **argv)
     property("the machine then shows the picture, in both phases", holds.frames);
     property("the three areas hold the picture's planes", holds.planes);
     property("memory outside the three areas is unchanged", holds.outside);
+    property("the asking stream is the plain one with a status read before each pair", holds.asking);
+    property("it passes the check from any valid state and leaves the same memory", holds.passes);
     property("about half of the books are right",
              5 * seen.numbers[0] > 2 * seen.books && 5 * seen.numbers[0] < 3 * seen.books);
     property("refusals 1, 9, 10 and 11 occur", seen.numbers[1] > 0 && seen.numbers[9] > seeds / 10

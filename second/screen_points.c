@@ -7,7 +7,7 @@
 #include "screens.h"
 
 #define UNTOUCHED 0xEE
-#define ROOM 40000
+#define ROOM 80000
 
 static unsigned char book[SECOND_BOOK_LIMIT + 1];
 static unsigned char room[ROOM];
@@ -71,15 +71,17 @@ static unsigned long one_screen(const unsigned char *body, unsigned length)
     return 5UL + length;
 }
 
-/* Both give number and place, and change nothing where they refuse. */
+/* Writer, asking writer and picture give number and place, and change nothing where they refuse. */
 static int both_give(unsigned long length, unsigned long screen, unsigned number, unsigned long place)
 {
-    struct second_write_reply written;
+    struct second_write_reply written, asked;
     struct second_picture_reply drawn;
     touch_nothing();
     written = write_3_2_6(length, screen, ROOM);
+    asked = second_write_asking(&panel_3_2_6, book, length, screen, room, ROOM);
     drawn = draw_3_2_6(length, screen);
     if (written.number != number || written.place != place) return 0;
+    if (asked.number != number || asked.place != place || asked.pairs != 2 * written.pairs) return 0;
     if (drawn.number != number || drawn.place != place) return 0;
     if (number == 0) return written.pairs >= opening_3_2;
     return written.pairs == 0 && touched_nothing();
@@ -301,6 +303,33 @@ static void no_room(void)
     point("9 before 12", write_3_2_6(0, 0, 0).number == 9 && write_3_2_6(0, 0, 0).place == 0);
 }
 
+/* The second writer's stream is the first one's, a status read before each pair. */
+static void asking(void)
+{
+    static const unsigned char body[10] = {5, 1, 2, 3, 0, 6, 9, 0, 0, 0};
+    static unsigned char plain[2 * 2000];
+    unsigned long length = one_screen(body, 5), pairs = opening_3_2 + 5, room_length, i;
+    struct second_write_reply reply;
+    int holds = 1;
+    second_write(&panel_3_2_6, book, length, 0, plain, sizeof plain);
+    touch_nothing();
+    for (room_length = 0; room_length < 4 * pairs; room_length++) {
+        reply = second_write_asking(&panel_3_2_6, book, length, 0, room, room_length);
+        if (reply.number != 12 || reply.place != 2 * pairs || reply.pairs != 0) holds = 0;
+    }
+    point("asking: 12 for every shorter room, its place twice the pairs", holds && touched_nothing());
+    reply = second_write_asking(&panel_3_2_6, book, length, 0, room, 4 * pairs);
+    holds = reply.number == 0 && reply.place == 0 && reply.pairs == 2 * pairs;
+    for (i = 0; i < pairs; i++) {
+        if (room[4 * i] != 3 || room[4 * i + 1] != 0) holds = 0;
+        if (room[4 * i + 2] != plain[2 * i] || room[4 * i + 3] != plain[2 * i + 1]) holds = 0;
+    }
+    point("asking: a status read, byte 00H, before each pair", holds && all(room + 4 * pairs, ROOM - 4 * pairs, UNTOUCHED));
+    length = one_screen(body, 7);
+    reply = second_write_asking(&panel_3_2_6, book, length, 0, room, 0);
+    point("asking: 11 before 12", reply.number == 11 && reply.place == 10);
+}
+
 static void panels(void)
 {
     static const struct second_panel bad[10] = {
@@ -312,8 +341,10 @@ static void panels(void)
     touch_nothing();
     for (i = 0; i < 10; i++) {
         struct second_write_reply written = second_write(&bad[i], book, 0, 9, room, 0);
+        struct second_write_reply asked = second_write_asking(&bad[i], book, 0, 9, room, 0);
         struct second_picture_reply drawn = draw(&bad[i], 0, 9, 0, 0, 0, 0, 0);
         if (written.number != 1 || written.place != 0 || written.pairs != 0) holds = 0;
+        if (asked.number != 1 || asked.place != 0 || asked.pairs != 0) holds = 0;
         if (drawn.number != 1 || drawn.place != 0) holds = 0;
     }
     point("1 before all others", holds && touched_nothing());
@@ -372,6 +403,7 @@ int main(void)
     screen_numbers();
     longest_book();
     no_room();
+    asking();
     panels();
     fixed_lengths();
     planes();

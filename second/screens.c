@@ -209,13 +209,20 @@ static unsigned long body_pairs(const unsigned char *bytes, struct second_body b
 struct stream {
     unsigned char *room;
     unsigned long pairs; /* written so far */
+    int asking;          /* a status read stands before each write */
 };
 
-static void pair(struct stream *stream, unsigned kind, unsigned long byte)
+static void put_pair(struct stream *stream, unsigned kind, unsigned long byte)
 {
     stream->room[2 * stream->pairs] = (unsigned char)kind;
     stream->room[2 * stream->pairs + 1] = (unsigned char)byte;
     stream->pairs++;
+}
+
+static void pair(struct stream *stream, unsigned kind, unsigned long byte)
+{
+    if (stream->asking) put_pair(stream, SECOND_STATUS_READ, 0);
+    put_pair(stream, kind, byte);
 }
 
 static void command(struct stream *stream, unsigned code)
@@ -346,9 +353,10 @@ static void write_operation(struct stream *stream, const struct second_panel *pa
     }
 }
 
-struct second_write_reply second_write(const struct second_panel *panel,
-                                       const unsigned char *book, unsigned long book_length, unsigned long screen,
-                                       unsigned char *room, unsigned long room_length)
+static struct second_write_reply write_screen(const struct second_panel *panel,
+                                              const unsigned char *book, unsigned long book_length,
+                                              unsigned long screen, int asking,
+                                              unsigned char *room, unsigned long room_length)
 {
     struct second_write_reply reply;
     struct stream stream;
@@ -361,6 +369,7 @@ struct second_write_reply second_write(const struct second_panel *panel,
     reply.number = screen_number(panel, book, book_length, screen, &body, &reply.place);
     if (reply.number != 0) return reply;
     needed = opening_pairs(panel) + body_pairs(book, body);
+    if (asking) needed *= 2;
     if (2 * needed > room_length) {
         reply.number = 12;
         reply.place = needed;
@@ -369,10 +378,26 @@ struct second_write_reply second_write(const struct second_panel *panel,
 
     stream.room = room;
     stream.pairs = 0;
+    stream.asking = asking;
     write_opening(&stream, panel);
     for (at = body.begin; at < body.end; at += whole_length(book + at)) write_operation(&stream, panel, book + at);
     reply.pairs = stream.pairs;
     return reply;
+}
+
+struct second_write_reply second_write(const struct second_panel *panel,
+                                       const unsigned char *book, unsigned long book_length, unsigned long screen,
+                                       unsigned char *room, unsigned long room_length)
+{
+    return write_screen(panel, book, book_length, screen, 0, room, room_length);
+}
+
+struct second_write_reply second_write_asking(const struct second_panel *panel,
+                                              const unsigned char *book, unsigned long book_length,
+                                              unsigned long screen,
+                                              unsigned char *room, unsigned long room_length)
+{
+    return write_screen(panel, book, book_length, screen, 1, room, room_length);
 }
 
 /* The picture, dot by dot; nothing below knows a register or an address. */

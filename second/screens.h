@@ -70,6 +70,12 @@ struct second_write_reply second_write(const struct second_panel *panel,
                                        const unsigned char *book, unsigned long book_length, unsigned long screen,
                                        unsigned char *room, unsigned long room_length);
 
+/* The same with a status read, byte 00H, before each pair; every count of pairs doubles. */
+struct second_write_reply second_write_asking(const struct second_panel *panel,
+                                              const unsigned char *book, unsigned long book_length,
+                                              unsigned long screen,
+                                              unsigned char *room, unsigned long room_length);
+
 /* 0, 1, 2, 9, 10 or 11. Phase off if normal is 0. On refusal planes and frame are unchanged. */
 struct second_picture_reply second_picture(const struct second_panel *panel,
                                            const unsigned char *book, unsigned long book_length, unsigned long screen,

@@ -1,9 +1,13 @@
 /* write: C, L, w, a screen's number and a book in; the log program's input that shows the screen out. With an argument the panel is
-   in two halves. */
+   in two halves. Compiled with ASKING it is write_asking, whose stream has a status read before each pair. */
 #include <stdio.h>
 #include <stdlib.h>
 
 #include "screens.h"
+
+#ifdef ASKING
+#define second_write second_write_asking
+#endif
 
 #define HEAD 4
 
