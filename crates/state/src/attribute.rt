@@ -1,6 +1,5 @@
 // The attribute codes.
 ghost use mathlib.Core.Path.{_≡_};
-ghost use Prim.Native.Nat.{_%_};
 ghost use Rattle.ground.specs.Lists.{build};
 ghost use Rattle.state.specs.Attribute.{lookOf};
 
@@ -77,13 +76,4 @@ pub fn looks() -> [Look; 16]
     ensures { λ r. ⌜ r ≡ build 16 lookOf ⌝ }
 {
     LOOKS
-}
-
-// The table's row for an attribute byte, whose low four bits are its code.
-pub fn look_at(attribute: u8) -> Look
-    ensures { λ r. ⌜ r ≡ lookOf (attribute % 16) ⌝ }
-{
-    let code = (attribute % 16) as usize;
-    let table = looks();
-    table[code]
 }
