@@ -8,7 +8,7 @@ pub use Rattle.state.specs.declared.registers.Auto.the-variants.{Off, Write, Re
 pub use Rattle.state.specs.declared.registers.Bus.{Bus}
 pub use Rattle.state.specs.declared.registers.Registers.{Registers}
 pub use Rattle.state.specs.declared.reply.Reply.{Reply}
-pub use Rattle.controller.specs.declared.access.Acted.{Acted}
+pub use Rattle.controller.specs.Types.{Acted}
 pub use Rattle.controller.specs.declared.run.Ran.{Ran}
 pub use Rattle.controller.specs.declared.run.RanOn.{RanOn}
 pub use Rattle.boundary.specs.declared.door.Entry.{Entry}

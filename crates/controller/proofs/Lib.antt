@@ -1,4 +1,3 @@
-pub mod Acts
 pub mod Blocks
 pub mod Goings
 pub mod Laws
@@ -11,5 +10,4 @@ pub mod Splits
 pub mod Splitting
 pub mod SplittingOn
 pub mod Takes
-pub mod Tells
 pub mod Turns

@@ -1,6 +1,6 @@
 -- The controller's run pair by pair: what each kind of pair comes to.
 use mathlib.Core.Path.{_≡_, refl, ap, sym, subst, _∙_}
-use mathlib.Core.Bool.{Bool, true, false, cond, not, _&&_, _||_, false≢true}
+use mathlib.Core.Bool.{Bool, true, false, cond, not, _&&_, _||_}
 use mathlib.Core.List.{List, [], _∷_}
 use Prim.Native.Nat.{ℕ, zero, suc, _+_, _-_, _*_, _/_, _%_, _<_, _≤_}
 use native.Mathlib.Decide.{decLt}
@@ -12,17 +12,16 @@ use borrow.Author.Tests.{eq-eqb, ne-eqb, eqb-true, ltb-true, lt-ltb, le-ltb}
 use Rattle.ground.specs.Lists.{stored}
 use Rattle.ground.proofs.Tests.{cond-has, both, both-left, both-right}
 use Rattle.ground.proofs.Stores.{stored-length}
-use Rattle.state.specs.State.{validPanel, none}
-use Rattle.codes.specs.Command.{isOff}
-use Rattle.controller.specs.Types.{Panel, Display, Auto, Off, Write, Read, Pending, Bus, Registers, Turned, Noted, Told, Drawn, Up}
-use Rattle.effects.specs.Effect.{withBus, withPointer, withAuto, withLatch, withPending, withPhase, pushed, movedOf, isWrite, isRead, busStatus}
-use Rattle.controller.specs.Access.{Pair, Step, done, answered, refused, dataWriteOf, dataReadOf, stepOf}
+use Rattle.state.specs.State.{validPanel}
+use Rattle.controller.specs.Types.{Panel, Display, Bus, Registers, Turned, Noted, Taken}
+use Rattle.effects.specs.Effect.{withBus, withPointer, isWrite}
+use Rattle.controller.specs.Access.{Pair, Step, done, answered, refused, stepOf}
 use Rattle.effects.specs.Machine.{Machine, machine}
 use Rattle.controller.specs.Run.{pairsOf, Standing, Turn, went, halted, turnOf, runFrom}
 use Rattle.controller.specs.Skip.{Skipping, passedBy, skipBy, skipStep, ranOnAll, ranOnOf}
-use Rattle.controller.specs.Ready.{Runs, Tells, Draws, Blocked, pairsFrom, dataOf, standing, standingOn, TurnedAll, turnedAll, turnedOf, NotedAll, notedAll, notedOf}
+use Rattle.usual.specs.Ready.{Takes, quietly, aloud, Usually}
+use Rattle.controller.specs.Ready.{Runs, Blocked, pairsFrom, dataOf, standing, standingOn, TurnedAll, turnedAll, turnedOf, NotedAll, notedAll, notedOf}
 use Rattle.controller.proofs.Blocks.{pairAt, pairs-behind, write-only, block-run}
-use Rattle.controller.proofs.Tells.{leaves}
 use Rattle.controller.proofs.Laws.{Sounds, sounds-valid, step-sound}
 use Rattle.controller.proofs.Splits.{projected}
 use Rattle.controller.proofs.Goings.{Leaves, Proper, goes, stops, Going, going, going-ends, going-halts, going-went, going-done, going-answers}
@@ -232,80 +231,25 @@ module _ {p : Panel} {on : Bool} {rom log : List ℕ} {total : ℕ} {s₀ : Stan
         };
       })
 
-off-only : (a : Auto) → isOff a ≡ true → a ≡ Off
-off-only Off e = refl
-off-only Write e = absurd (false≢true e)
-off-only Read e = absurd (false≢true e)
-
-read-only : (a : Auto) → isRead a ≡ true → a ≡ Read
-read-only Off e = absurd (false≢true e)
-read-only Write e = absurd (false≢true e)
-read-only Read e = refl
-
 -- the pairs that are taken apart from the others
 module _ {p : Panel} {on : Bool} {rom log : List ℕ} {total : ℕ} {s₀ : Standing (Skipping Machine)} {d : Display} {b : Bus} {m a : List ℕ} {n : ℕ} {skips : List ℕ} {listed i : ℕ}
-    (g : Running p on rom log total s₀ (standing (record { display = d; bus = b }) m a n) skips listed i) where
-  pub going-kept : {after : List ℕ} → after ≡ m → Running p on rom log total s₀ (standing (record { display = d; bus = b }) after a n) skips listed i
-  going-kept e = subst (λ (x : List ℕ). Running p on rom log total s₀ (standing (record { display = d; bus = b }) x a n) skips listed i) (sym e) g
+    (g : Running p on rom log total s₀ (standing (record { display = d; bus = b }) m a n) skips listed i)
+    {u : Taken} {memory after : List ℕ} (k : Usually d b m a n (getD log (2 * i) 0) (getD log (2 * i + 1) 0) u memory after) where
+  pub going-left : u .done ≡ false → Running p on rom log total s₀ (standing (record { display = d; bus = b }) memory after n) skips listed i
+  going-left e =
+      subst (λ (x : List ℕ). Running p on rom log total s₀ (standing (record { display = d; bus = b }) x after n) skips listed i) (sym (k .keeps e .0))
+      (subst (λ (x : List ℕ). Running p on rom log total s₀ (standing (record { display = d; bus = b }) m x n) skips listed i) (sym (k .keeps e .1)) g)
 
-  -- room for an answer, as the loop's tests have it
-  pub room-left : (k : ℕ) → (eqb (getD log (2 * i) 0) k && ltb n (length a)) ≡ true → n < length a
-  room-left k t = ltb-true n (length a) (both-right (eqb (getD log (2 * i) 0) k) (ltb n (length a)) t)
-
-  pub room-still : (k : ℕ) (r : Bool) → ((eqb (getD log (2 * i) 0) k && ltb n (length a)) && r) ≡ true → n < length a
-  room-still k r t = room-left k (both-left (eqb (getD log (2 * i) 0) k && ltb n (length a)) r t)
-
-  module _ (h : i < total) (l : 2 * total ≤ length log) where
-    pub going-states : (eqb (getD log (2 * i) 0) 3 && ltb n (length a)) ≡ true → {v : ℕ} → v ≡ busStatus b (d .phase)
-        → Running p on rom log total s₀ (standing (record { display = d; bus = b }) m (set a n v) (n + 1)) skips listed (i + 1)
-    going-states t f =
-        running-answers g h l 3 (eqb-true (getD log (2 * i) 0) 3 (both-left (eqb (getD log (2 * i) 0) 3) (ltb n (length a)) t))
-        (ap (answered (machine (record { display = d; bus = b }) m)) (sym f)) (both-right (eqb (getD log (2 * i) 0) 3) (ltb n (length a)) t)
-
-    pub going-ticks : getD log (2 * i) 0 ≡ 4 → Running p on rom log total s₀ (standing (record { display = withPhase d (not (d .phase)); bus = b }) m a n) skips listed (i + 1)
-    going-ticks e = running-done g h l 4 e refl
-
-    pub going-leaves : (eqb (getD log (2 * i) 0) 1 && eqb (getD log (2 * i + 1) 0) 0xb2) ≡ true → {next : Bus} → next ≡ withAuto b Off
-        → Running p on rom log total s₀ (standing (record { display = d; bus = withPending next none }) m a n) skips listed (i + 1)
-    going-leaves t f =
-        running-done g h l 1 (eqb-true (getD log (2 * i) 0) 1 (both-left (eqb (getD log (2 * i) 0) 1) (eqb (getD log (2 * i + 1) 0) 0xb2) t))
-        (leaves p rom m d b (getD log (2 * i + 1) 0)
-        (eqb-true (getD log (2 * i + 1) 0) 0xb2 (both-right (eqb (getD log (2 * i) 0) 1) (eqb (getD log (2 * i + 1) 0) 0xb2) t)) f)
-
-    pub going-fetches : {read : Bool} → read ≡ isRead (b .auto) → ((eqb (getD log (2 * i) 0) 2 && ltb n (length a)) && read) ≡ true → {next : Bus}
-        → next ≡ withPointer (withLatch b (getD m (b .pointer) 0)) (movedOf Up (b .pointer))
-        → Running p on rom log total s₀ (standing (record { display = d; bus = withPointer b (next .pointer) }) m (set a n (next .latch)) (n + 1)) skips listed (i + 1)
-    going-fetches {read} e t f =
-        let u = both-left (eqb (getD log (2 * i) 0) 2 && ltb n (length a)) read t in
-        running-answers g h l 2 (eqb-true (getD log (2 * i) 0) 2 (both-left (eqb (getD log (2 * i) 0) 2) (ltb n (length a)) u))
-        (ap (λ (x : Auto). dataReadOf x (machine (record { display = d; bus = b }) m)) (read-only (b .auto) (sym e ∙ both-right (eqb (getD log (2 * i) 0) 2 && ltb n (length a)) read t))
-        ∙ (λ t. answered (machine (record { display = d; bus = withPointer b (sym f t .pointer) }) m) (sym f t .latch)))
-        (both-right (eqb (getD log (2 * i) 0) 2) (ltb n (length a)) u)
-
-    module _ {off : Bool} (e : off ≡ isOff (b .auto)) where
-      pub going-pushes : (eqb (getD log (2 * i) 0) 0 && off) ≡ true → {q : Pending} → q ≡ pushed (b .pending) (getD log (2 * i + 1) 0)
-          → Running p on rom log total s₀ (standing (record { display = d; bus = withPending b q }) m a n) skips listed (i + 1)
-      going-pushes t f =
-          running-done g h l 0 (eqb-true (getD log (2 * i) 0) 0 (both-left (eqb (getD log (2 * i) 0) 0) off t))
-          (ap (λ (x : Auto). dataWriteOf x (machine (record { display = d; bus = b }) m) (getD log (2 * i + 1) 0)) (off-only (b .auto) (sym e ∙ both-right (eqb (getD log (2 * i) 0) 0) off t))
-          ∙ (λ t. done (machine (record { display = d; bus = withPending b (sym f t) }) m)))
-
-      pub going-reads : ((eqb (getD log (2 * i) 0) 2 && ltb n (length a)) && off) ≡ true
-          → Running p on rom log total s₀ (standing (record { display = d; bus = b }) m (set a n (b .latch)) (n + 1)) skips listed (i + 1)
-      going-reads t =
-          let u = both-left (eqb (getD log (2 * i) 0) 2 && ltb n (length a)) off t in
-          running-answers g h l 2 (eqb-true (getD log (2 * i) 0) 2 (both-left (eqb (getD log (2 * i) 0) 2) (ltb n (length a)) u))
-          (ap (λ (x : Auto). dataReadOf x (machine (record { display = d; bus = b }) m)) (off-only (b .auto) (sym e ∙ both-right (eqb (getD log (2 * i) 0) 2 && ltb n (length a)) off t)))
-          (both-right (eqb (getD log (2 * i) 0) 2) (ltb n (length a)) u)
-
-      pub going-tells : {told : Told} {after : List ℕ} → Tells b m (eqb (getD log (2 * i) 0) 1 && off) (getD log (2 * i + 1) 0) told after → told .done ≡ true
-          → Running p on rom log total s₀ (standing (record { display = d; bus = told .bus }) after a n) skips listed (i + 1)
-      going-tells k t =
-          running-done g h l 1 (eqb-true (getD log (2 * i) 0) 1 (both-left (eqb (getD log (2 * i) 0) 1) off (k .quiet t)))
-          (k .acts t (sym e ∙ both-right (eqb (getD log (2 * i) 0) 1) off (k .quiet t)) p rom d)
-
-      pub going-draws : {drawn : Drawn} → Draws d (eqb (getD log (2 * i) 0) 1 && off) (getD log (2 * i + 1) 0) drawn → drawn .done ≡ true
-          → Running p on rom log total s₀ (standing (record { display = drawn .display; bus = withPending b none }) m a n) skips listed (i + 1)
-      going-draws k t =
-          running-done g h l 1 (eqb-true (getD log (2 * i) 0) 1 (both-left (eqb (getD log (2 * i) 0) 1) off (k .quiet t)))
-          (k .acts t b (sym e ∙ both-right (eqb (getD log (2 * i) 0) 1) off (k .quiet t)) p rom m)
+  pub going-apart : i < total → 2 * total ≤ length log → u .done ≡ true
+      → Running p on rom log total s₀ (standing (record { display = u .display; bus = u .bus }) memory after (u .given)) skips listed (i + 1)
+  going-apart h l e = go (k .acts e p rom)
+    where
+      go : Takes (stepOf p rom (machine (record { display = d; bus = b }) m) (pairAt log i)) (machine (record { display = u .display; bus = u .bus }) memory) a n after (u .given)
+          → Running p on rom log total s₀ (standing (record { display = u .display; bus = u .bus }) memory after (u .given)) skips listed (i + 1)
+      go (quietly x y z) =
+          subst (λ (w : List ℕ). Running p on rom log total s₀ (standing (record { display = u .display; bus = u .bus }) memory w (u .given)) skips listed (i + 1)) (sym y)
+          (subst (λ (w : ℕ). Running p on rom log total s₀ (standing (record { display = u .display; bus = u .bus }) memory a w) skips listed (i + 1)) (sym z) (running-done g h l _ refl x))
+      go (aloud x) =
+          subst (λ (w : List ℕ). Running p on rom log total s₀ (standing (record { display = u .display; bus = u .bus }) memory w (u .given)) skips listed (i + 1)) (sym (x .holds))
+          (subst (λ (w : ℕ). Running p on rom log total s₀ (standing (record { display = u .display; bus = u .bus }) memory (set a n (x .byte)) w) skips listed (i + 1)) (sym (x .counts))
+          (running-answers g h l _ refl (x .steps) (x .room)))

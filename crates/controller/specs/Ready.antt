@@ -7,12 +7,10 @@ use lib.Dec.{ltb, eqb}
 use lib.ListN.{length, take, drop, set}
 use lib.Seq.{sets}
 use Rattle.ground.specs.Lists.{stored}
-use Rattle.state.specs.State.{validPanel, validRegisters, none}
+use Rattle.state.specs.State.{validPanel, validRegisters}
 use Rattle.display.specs.Frame.{lentLengths}
-use Rattle.controller.specs.Types.{Panel, Display, Bus, Registers, Acted, Turned, Noted, Told, Drawn}
-use Rattle.codes.specs.Command.{isOff}
-use Rattle.effects.specs.Effect.{withPending}
-use Rattle.controller.specs.Access.{Pair, code, done, stepOf}
+use Rattle.controller.specs.Types.{Panel, Registers, Acted, Turned, Noted}
+use Rattle.controller.specs.Access.{Pair}
 use Rattle.effects.specs.Machine.{Machine, machine}
 use Rattle.controller.specs.Run.{pairsOf, Standing, Turn, went, halted}
 use Rattle.controller.specs.Skip.{Skipping}
@@ -102,16 +100,3 @@ pub record Blocked (mem : List ℕ) (start : ℕ) (log : List ℕ) (from total :
   pub inside : end ≤ total
   pub holds : after ≡ stored mem start (dataOf (pairsFrom log from total))
   pub reaches : end ≡ from + length (dataOf (pairsFrom log from total))
-
--- a command told to the bus and the memory alone, where auto is off: done as a step does it, whatever the display; or left, and all is as it was
-pub record Tells (b : Bus) (mem : List ℕ) (still : Bool) (k : ℕ) (told : Told) (after : List ℕ) : Type 0 where
-  pub quiet : told .done ≡ true → still ≡ true
-  pub acts : told .done ≡ true → isOff (b .auto) ≡ true → (p : Panel) (rom : List ℕ) (d : Display)
-      → stepOf p rom (machine (record { display = d; bus = b }) mem) (code k) ≡ done (machine (record { display = d; bus = told .bus }) after)
-  pub keeps : told .done ≡ false → after ≡ mem
-
--- a command of the display alone, where auto is off: done as a step does it, whatever the bus and the memory
-pub record Draws (d : Display) (still : Bool) (k : ℕ) (drawn : Drawn) : Type 0 where
-  pub quiet : drawn .done ≡ true → still ≡ true
-  pub acts : drawn .done ≡ true → (b : Bus) → isOff (b .auto) ≡ true → (p : Panel) (rom mem : List ℕ)
-      → stepOf p rom (machine (record { display = d; bus = b }) mem) (code k) ≡ done (machine (record { display = drawn .display; bus = withPending b none }) mem)

@@ -20,10 +20,9 @@ pub use Rattle.codes.specs.declared.decode.Decoded.{Decoded}
 pub use Rattle.codes.specs.declared.decode.Decoded.the-variants.{Defined, Undefined}
 pub use Rattle.sight.specs.declared.position.Position.{Position}
 pub use Rattle.sight.specs.declared.position.Position.the-variants.{At, Nowhere}
-pub use Rattle.controller.specs.declared.access.Acted.{Acted}
+pub use Rattle.single.specs.declared.access.Acted.{Acted}
 pub use Rattle.controller.specs.declared.run.Ran.{Ran}
 pub use Rattle.controller.specs.declared.run.RanOn.{RanOn}
 pub use Rattle.controller.specs.declared.run.Noted.{Noted}
 pub use Rattle.controller.specs.declared.run.Turned.{Turned}
-pub use Rattle.controller.specs.declared.run.Told.{Told}
-pub use Rattle.controller.specs.declared.run.Drawn.{Drawn}
+pub use Rattle.usual.specs.declared.apart.Taken.{Taken}

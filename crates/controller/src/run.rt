@@ -1,37 +1,21 @@
 // The run of a log.
 ghost use mathlib.Core.Path.{_≡_};
-ghost use mathlib.Core.Bool.{true, false};
-ghost use Rattle.effects.specs.Effect.{withMode, withPointer};
+ghost use Rattle.effects.specs.Effect.{withPointer};
 ghost use Prim.Native.Nat.{_+_, _*_, _%_, _≤_};
 ghost use lib.ListN.{length, take};
 ghost use Rattle.effects.specs.Machine.{machine};
 ghost use Rattle.controller.specs.Access.{stepOf};
 ghost use Rattle.controller.specs.Run.{turnOf, runFrom, ranAll, stoppingOf, pairsOf};
 ghost use Rattle.controller.specs.Skip.{skipStep, begunOn, ranOnAll, ranOnOf, eitherRun, runOf};
-ghost use Rattle.controller.specs.Ready.{Runs, Tells, Draws, Blocked, standing, turnedAll, turnedOf, takenOf, answeredAll, answeredOf, notedAll, notedOf};
-use crate::access::Acted;
-use crate::access::step;
-use crate::store::change;
-use crate::store::fetch;
-use crate::store::put;
-use codes::command::Move;
-use codes::command::is_off;
-use effects::effect::bus_status;
-use effects::effect::is_read;
+ghost use Rattle.controller.specs.Ready.{Runs, Blocked, standing, turnedAll, turnedOf, takenOf, answeredAll, answeredOf, notedAll, notedOf};
 use effects::effect::is_write;
-use effects::effect::push;
-use effects::effect::with_auto;
-use effects::effect::with_mode;
 use ground::bytes::lesser;
-use ground::bytes::word;
+use single::access::Acted;
+use single::access::access;
 use state::panel::Panel;
-use state::registers::Auto;
 use state::registers::Bus;
-use state::registers::Combination;
-use state::registers::Display;
-use state::registers::DisplayBits;
-use state::registers::Pending;
 use state::registers::Registers;
+use usual::apart::apart;
 
 // A number and place, the pairs taken, the answers written, the registers after.
 pub struct Ran {
@@ -122,188 +106,11 @@ fn turn(
     requires { ⌜ Runs panel registers (now mem) (now rom) ⌝ }
     ensures { λ r. ⌜ turnedAll r (now (mem .exit)) (now (answers .exit)) ≡ turnedOf (standing registers (now (mem .entry)) (now (answers .entry)) given) (turnOf (standing registers (now (mem .entry)) (now (answers .entry)) given) (stepOf panel (now (rom .entry)) (machine registers (now (mem .entry))) (record { kind = kind; byte = byte }))) ⌝ }
 {
-    let acted = step(panel, registers, mem, rom, kind, byte);
+    let acted = access(panel, registers, mem, rom, kind, byte);
     if (kind == 2) | (kind == 3) {
         answered(acted, registers, answers, given)
     } else {
         taken(acted, registers, given)
-    }
-}
-
-// A command of the bus alone, done or left as it was.
-pub(crate) struct Told {
-    pub bus: Bus,
-    pub done: bool,
-}
-
-fn left(bus: Bus) -> Told
-    ensures { λ r. ⌜ r ≡ record { bus = bus; done = false } ⌝ }
-{
-    Told { bus, done: false }
-}
-
-// The commands that a drawing program sends most: pointer, auto, stores, loads and bits, where they are taken. Any other is left to `turn`.
-fn tell(bus: Bus, mem: &mut [u8], quiet: bool, code: u8) -> Told
-    requires { ⌜ length (now mem) ≡ 65536 ⌝ }
-    ensures { λ r. ⌜ Tells bus (now (mem .entry)) quiet code r (now (mem .exit)) ⌝ }
-{
-    let pending = bus.pending;
-    let none = Pending {
-        count: 0,
-        older: 0,
-        newest: 0,
-    };
-    let mut next = bus;
-    next.pending = none;
-    if quiet {
-        match code {
-            0x24 => {
-                if pending.count < 2 {
-                    return left(bus);
-                }
-                next.pointer = word(pending.older, pending.newest);
-                Told {
-                    bus: next,
-                    done: true,
-                }
-            }
-            0xb0 => Told {
-                bus: with_auto(next, Auto::Write),
-                done: true,
-            },
-            0xb1 => Told {
-                bus: with_auto(next, Auto::Read),
-                done: true,
-            },
-            0xc0 => {
-                if pending.count < 1 {
-                    return left(bus);
-                }
-                Told {
-                    bus: put(next, mem, pending.newest, Move::Up),
-                    done: true,
-                }
-            }
-            0xc1 => Told {
-                bus: fetch(next, mem, Move::Up),
-                done: true,
-            },
-            0xc2 => {
-                if pending.count < 1 {
-                    return left(bus);
-                }
-                Told {
-                    bus: put(next, mem, pending.newest, Move::Down),
-                    done: true,
-                }
-            }
-            0xc3 => Told {
-                bus: fetch(next, mem, Move::Down),
-                done: true,
-            },
-            0xc4 => {
-                if pending.count < 1 {
-                    return left(bus);
-                }
-                Told {
-                    bus: put(next, mem, pending.newest, Move::Stay),
-                    done: true,
-                }
-            }
-            0xc5 => Told {
-                bus: fetch(next, mem, Move::Stay),
-                done: true,
-            },
-            _ => {
-                if code < 0xf0 {
-                    return left(bus);
-                }
-                let low = code % 16;
-                change(bus.pointer, mem, low % 8, (low >> 3) % 2 == 1);
-                Told {
-                    bus: next,
-                    done: true,
-                }
-            }
-        }
-    } else {
-        left(bus)
-    }
-}
-
-// A command of the display alone, done or left as it was.
-pub(crate) struct Drawn {
-    pub display: Display,
-    pub done: bool,
-}
-
-fn undrawn(display: Display) -> Drawn
-    ensures { λ r. ⌜ r ≡ record { display = display; done = false } ⌝ }
-{
-    Drawn {
-        display,
-        done: false,
-    }
-}
-
-fn mixed(display: Display, external: bool, combination: Combination) -> Drawn
-    ensures { λ r. ⌜ r ≡ record { display = withMode display external combination; done = true } ⌝ }
-{
-    Drawn {
-        display: with_mode(display, external, combination),
-        done: true,
-    }
-}
-
-// The commands that need no data and change the display alone: mode, display bits, cursor height. Any other is left to `turn`.
-fn draw(display: Display, quiet: bool, code: u8) -> Drawn
-    ensures { λ r. ⌜ Draws display quiet code r ⌝ }
-{
-    let mut next = display;
-    let high = code / 16;
-    let low = code % 16;
-    if quiet {
-        match high {
-            8 => {
-                let external = (low >> 3) % 2 == 1;
-                let kind = low % 8;
-                match kind {
-                    0 => mixed(display, external, Combination::Or),
-                    1 => mixed(display, external, Combination::Exor),
-                    3 => mixed(display, external, Combination::And),
-                    4 => mixed(display, external, Combination::Attribute),
-                    _ => undrawn(display),
-                }
-            }
-            9 => {
-                let bits = DisplayBits {
-                    graphic: (low >> 3) % 2 == 1,
-                    text: (low >> 2) % 2 == 1,
-                    cursor: (low >> 1) % 2 == 1,
-                    blink: (low >> 0) % 2 == 1,
-                };
-                next.bits = bits;
-                Drawn {
-                    display: next,
-                    done: true,
-                }
-            }
-            10 => {
-                if low < 8 {
-                    let height = low + 1;
-                    next.cursor.height = height;
-                    Drawn {
-                        display: next,
-                        done: true,
-                    }
-                } else {
-                    undrawn(display)
-                }
-            }
-            _ => undrawn(display),
-        }
-    } else {
-        undrawn(display)
     }
 }
 
@@ -392,67 +199,11 @@ fn pairs(
             i = end;
             continue;
         }
-        let off = is_off(auto);
-        if (kind == 0) & off {
-            let pending = bus.pending;
-            let pushed = push(pending, byte);
-            bus.pending = pushed;
-            i += 1;
-            continue;
-        }
-        let room = given < answers.len();
-        if (kind == 3) & room {
-            answers[given] = bus_status(bus, display.phase);
-            given += 1;
-            i += 1;
-            continue;
-        }
-        let quiet = (kind == 1) & off;
-        let told = tell(bus, mem, quiet, byte);
-        if told.done {
-            bus = told.bus;
-            i += 1;
-            continue;
-        }
-        let drawn = draw(display, quiet, byte);
-        if drawn.done {
-            let none = Pending {
-                count: 0,
-                older: 0,
-                newest: 0,
-            };
-            display = drawn.display;
-            bus.pending = none;
-            i += 1;
-            continue;
-        }
-        if (kind == 1) & (byte == 0xb2) {
-            let none = Pending {
-                count: 0,
-                older: 0,
-                newest: 0,
-            };
-            bus = with_auto(bus, Auto::Off);
-            bus.pending = none;
-            i += 1;
-            continue;
-        }
-        if (kind == 2) & room & off {
-            answers[given] = bus.latch;
-            given += 1;
-            i += 1;
-            continue;
-        }
-        if (kind == 2) & room & is_read(auto) {
-            let fetched = fetch(bus, mem, Move::Up);
-            answers[given] = fetched.latch;
-            bus.pointer = fetched.pointer;
-            given += 1;
-            i += 1;
-            continue;
-        }
-        if kind == 4 {
-            display.phase = !display.phase;
+        let usual = apart(display, bus, mem, answers, given, kind, byte);
+        if usual.done {
+            display = usual.display;
+            bus = usual.bus;
+            given = usual.given;
             i += 1;
             continue;
         }

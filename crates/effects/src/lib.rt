@@ -1,2 +1,3 @@
 // What the parts of an access do to the registers.
 pub mod effect;
+pub mod store;

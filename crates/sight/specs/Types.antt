@@ -7,3 +7,10 @@ pub use Rattle.state.specs.declared.registers.Registers.{Registers}
 pub use Rattle.sight.specs.declared.position.Position.{Position}
 pub use Rattle.sight.specs.declared.position.Position.the-variants.{At, Nowhere}
 pub use Rattle.sight.specs.declared.line.Line.{Line}
+pub use Rattle.state.specs.declared.registers.Auto.{Auto}
+pub use Rattle.state.specs.declared.registers.Auto.the-variants.{Off, Write, Read}
+pub use Rattle.codes.specs.declared.command.Move.the-variants.{Up}
+pub use Rattle.codes.specs.declared.command.Command.{Command}
+pub use Rattle.codes.specs.declared.command.Command.the-variants.{Set, Mode, DisplayMode, Height, Run, Store, Load, Peek, Copy, Bit}
+pub use Rattle.codes.specs.declared.decode.Decoded.{Decoded}
+pub use Rattle.codes.specs.declared.decode.Decoded.the-variants.{Defined, Undefined}

@@ -1,14 +1,15 @@
 -- `turn` meets its contract: a read answers, any other pair does not.
+use mathlib.Core.Path.{_∙_}
 use Rattle.effects.specs.Machine.{machine}
 use Rattle.controller.specs.Access.{stepOf}
-use Rattle.controller.proofs.Readied.{ready-runs}
+use Rattle.controller.proofs.Readied.{access-runs}
 use Rattle.controller.proofs.Turns.{step-answering, step-acting, turn-taken, turn-answered}
 use borrow.Author.Needs.{needs}
 use Rattle.controller.proofs.run.turn.Statement.{statement}
 use Rattle.controller.proofs.run.turn.Tie as tie
 
-step-requires : tie.Need-step-requires
-step-requires c κs = ready-runs (c .before .before .before .before .pre)
+access-requires : tie.Need-access-requires
+access-requires c κs = search needs
 
 answered-requires : tie.Need-answered-requires
 answered-requires c κs = search needs
@@ -28,7 +29,7 @@ returns c =
     turn-answered (s .registers) (s .mem .now) (s .answers .now) (s .given)
     (stepOf (s .panel) (s .rom .now) (machine (s .registers) (s .mem .now)) (record { kind = s .kind; byte = s .byte }))
     (step-answering (s .panel) (s .rom .now) (machine (s .registers) (s .mem .now)) (s .kind) (s .byte) (c .before .before .before .before .if1 .taken))
-    (c .before .before .before .before .before .before .before .step .ensures) (c .before .before .answered .ensures)
+    (c .before .before .before .before .before .before .before .access .ensures ∙ access-runs (c .before .before .before .before .before .before .before .before .before .before .before .before .pre) _) (c .before .before .answered .ensures)
 
 same-length-3 : tie.Need-same-length-3
 same-length-3 c = search needs
@@ -39,13 +40,13 @@ returns-2 c =
     turn-taken (s .registers) (s .mem .now) (s .answers .now) (s .given)
     (stepOf (s .panel) (s .rom .now) (machine (s .registers) (s .mem .now)) (record { kind = s .kind; byte = s .byte }))
     (step-acting (s .panel) (s .rom .now) (machine (s .registers) (s .mem .now)) (s .kind) (s .byte) (c .before .if1 .left))
-    (c .before .before .before .before .step .ensures) (c .taken .ensures)
+    (c .before .before .before .before .access .ensures ∙ access-runs (c .before .before .before .before .before .before .before .before .before .pre) _) (c .taken .ensures)
 
 pub turn-spec : {M : Type 1} → statement M
 turn-spec =
     tie.close
     (tie.spec
-    step-requires
+    access-requires
     answered-requires
     taken-requires
     same-length

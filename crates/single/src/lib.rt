@@ -1,0 +1,2 @@
+// A single access.
+pub mod access;
