@@ -5,6 +5,7 @@ use controller::access::access;
 use ground::bytes::lesser;
 use libc::STDIN_FILENO;
 use libc::STDOUT_FILENO;
+use naming::pair::put_words;
 use printed::fill::empty_memory;
 use printed::input::panel_in;
 use report::read_exact;
@@ -12,12 +13,9 @@ use report::read_whole;
 use report::report;
 use state::panel::Panel;
 use state::registers::Registers;
-use words::put_byte;
-use words::put_decimal;
-use words::put_hex;
-use words::put_words;
-
-mod words;
+use words::put::put_byte;
+use words::put::put_decimal;
+use words::put::put_hex;
 
 // The registers behind the pairs listed, the end of their lines, and the number of the first refused pair.
 struct Listed {

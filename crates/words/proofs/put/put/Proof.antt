@@ -4,8 +4,8 @@ use Prim.Native.Nat.{_≤_, _-_}
 use native.Mathlib.Omega.{arith}
 use lib.ListN.{length}
 use borrow.Author.Needs.{needs}
-use Rattle.list.proofs.words.put.Statement.{statement}
-use Rattle.list.proofs.words.put.Tie as tie
+use Rattle.words.proofs.put.put.Statement.{statement}
+use Rattle.words.proofs.put.put.Tie as tie
 
 abbrev Inv-loop : tie.InvT-loop
 Inv-loop out₀ at text w₀ i₀ out w i = (i ≤ length text) × (length out ≡ length out₀)

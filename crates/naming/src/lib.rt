@@ -1,0 +1,2 @@
+// What a pair was, in words.
+pub mod pair;
