@@ -1,6 +1,6 @@
 -- The controller's run pair by pair: what each kind of pair comes to.
 use mathlib.Core.Path.{_≡_, refl, ap, sym, subst, _∙_}
-use mathlib.Core.Bool.{Bool, true, false, cond, not, _&&_, _||_}
+use mathlib.Core.Bool.{Bool, true, false, cond, not, _&&_, _||_, false≢true}
 use mathlib.Core.List.{List, [], _∷_}
 use Prim.Native.Nat.{ℕ, zero, suc, _+_, _-_, _*_, _/_, _%_, _<_, _≤_}
 use native.Mathlib.Decide.{decLt}
@@ -12,14 +12,16 @@ use borrow.Author.Tests.{eq-eqb, ne-eqb, eqb-true, ltb-true, lt-ltb, le-ltb}
 use Rattle.ground.specs.Lists.{stored}
 use Rattle.ground.proofs.Tests.{cond-has, both, both-left, both-right}
 use Rattle.ground.proofs.Stores.{stored-length}
-use Rattle.state.specs.State.{validPanel}
-use Rattle.controller.specs.Types.{Panel, Display, Bus, Registers, Turned, Noted, Taken}
-use Rattle.effects.specs.Effect.{withBus, withPointer, isWrite}
-use Rattle.controller.specs.Access.{Pair, Step, done, answered, refused, stepOf}
+use Rattle.state.specs.State.{validPanel, none}
+use Rattle.codes.specs.Command.{isOff}
+use Rattle.controller.specs.Types.{Panel, Display, Auto, Off, Write, Read, Bus, Registers, Turned, Noted, Told, Drawn, Asked}
+use Rattle.effects.specs.Effect.{withBus, withPointer, withAuto, withPending, withPhase, pushed, isWrite}
+use Rattle.controller.specs.Access.{Pair, Step, done, answered, refused, dataWriteOf, stepOf}
 use Rattle.effects.specs.Machine.{Machine, machine}
 use Rattle.controller.specs.Run.{pairsOf, Standing, Turn, went, halted, turnOf, runFrom}
 use Rattle.controller.specs.Skip.{Skipping, passedBy, skipBy, skipStep, ranOnAll, ranOnOf}
-use Rattle.usual.specs.Ready.{Takes, quietly, aloud, Usually}
+use Rattle.usual.specs.Ready.{Tells, Draws, Asks}
+use Rattle.usual.proofs.Tells.{leaves}
 use Rattle.controller.specs.Ready.{Runs, Blocked, pairsFrom, dataOf, standing, standingOn, TurnedAll, turnedAll, turnedOf, NotedAll, notedAll, notedOf}
 use Rattle.controller.proofs.Blocks.{pairAt, pairs-behind, write-only, block-run}
 use Rattle.controller.proofs.Laws.{Sounds, sounds-valid, step-sound}
@@ -231,25 +233,57 @@ module _ {p : Panel} {on : Bool} {rom log : List ℕ} {total : ℕ} {s₀ : Stan
         };
       })
 
+off-only : (a : Auto) → isOff a ≡ true → a ≡ Off
+off-only Off e = refl
+off-only Write e = absurd (false≢true e)
+off-only Read e = absurd (false≢true e)
+
 -- the pairs that are taken apart from the others
 module _ {p : Panel} {on : Bool} {rom log : List ℕ} {total : ℕ} {s₀ : Standing (Skipping Machine)} {d : Display} {b : Bus} {m a : List ℕ} {n : ℕ} {skips : List ℕ} {listed i : ℕ}
-    (g : Running p on rom log total s₀ (standing (record { display = d; bus = b }) m a n) skips listed i)
-    {u : Taken} {memory after : List ℕ} (k : Usually d b m a n (getD log (2 * i) 0) (getD log (2 * i + 1) 0) u memory after) where
-  pub going-left : u .done ≡ false → Running p on rom log total s₀ (standing (record { display = d; bus = b }) memory after n) skips listed i
-  going-left e =
-      subst (λ (x : List ℕ). Running p on rom log total s₀ (standing (record { display = d; bus = b }) x after n) skips listed i) (sym (k .keeps e .0))
-      (subst (λ (x : List ℕ). Running p on rom log total s₀ (standing (record { display = d; bus = b }) m x n) skips listed i) (sym (k .keeps e .1)) g)
+    (g : Running p on rom log total s₀ (standing (record { display = d; bus = b }) m a n) skips listed i) where
+  pub going-kept : {after : List ℕ} → after ≡ m → Running p on rom log total s₀ (standing (record { display = d; bus = b }) after a n) skips listed i
+  going-kept e = subst (λ (x : List ℕ). Running p on rom log total s₀ (standing (record { display = d; bus = b }) x a n) skips listed i) (sym e) g
 
-  pub going-apart : i < total → 2 * total ≤ length log → u .done ≡ true
-      → Running p on rom log total s₀ (standing (record { display = u .display; bus = u .bus }) memory after (u .given)) skips listed (i + 1)
-  going-apart h l e = go (k .acts e p rom)
-    where
-      go : Takes (stepOf p rom (machine (record { display = d; bus = b }) m) (pairAt log i)) (machine (record { display = u .display; bus = u .bus }) memory) a n after (u .given)
-          → Running p on rom log total s₀ (standing (record { display = u .display; bus = u .bus }) memory after (u .given)) skips listed (i + 1)
-      go (quietly x y z) =
-          subst (λ (w : List ℕ). Running p on rom log total s₀ (standing (record { display = u .display; bus = u .bus }) memory w (u .given)) skips listed (i + 1)) (sym y)
-          (subst (λ (w : ℕ). Running p on rom log total s₀ (standing (record { display = u .display; bus = u .bus }) memory a w) skips listed (i + 1)) (sym z) (running-done g h l _ refl x))
-      go (aloud x) =
-          subst (λ (w : List ℕ). Running p on rom log total s₀ (standing (record { display = u .display; bus = u .bus }) memory w (u .given)) skips listed (i + 1)) (sym (x .holds))
-          (subst (λ (w : ℕ). Running p on rom log total s₀ (standing (record { display = u .display; bus = u .bus }) memory (set a n (x .byte)) w) skips listed (i + 1)) (sym (x .counts))
-          (running-answers g h l _ refl (x .steps) (x .room)))
+  pub going-held : {after : List ℕ} → after ≡ a → Running p on rom log total s₀ (standing (record { display = d; bus = b }) m after n) skips listed i
+  going-held e = subst (λ (x : List ℕ). Running p on rom log total s₀ (standing (record { display = d; bus = b }) m x n) skips listed i) (sym e) g
+
+  module _ (h : i < total) (l : 2 * total ≤ length log) where
+    pub going-ticks : getD log (2 * i) 0 ≡ 4 → {x : Display} → x ≡ withPhase d (not (d .phase))
+        → Running p on rom log total s₀ (standing (record { display = x; bus = b }) m a n) skips listed (i + 1)
+    going-ticks e f = running-done g h l 4 e (λ t. done (machine (record { display = sym f t; bus = b }) m))
+
+    pub going-leaves : (eqb (getD log (2 * i) 0) 1 && eqb (getD log (2 * i + 1) 0) 0xb2) ≡ true → {next : Bus} → next ≡ withPending (withAuto b Off) none
+        → Running p on rom log total s₀ (standing (record { display = d; bus = next }) m a n) skips listed (i + 1)
+    going-leaves t f =
+        running-done g h l 1 (eqb-true (getD log (2 * i) 0) 1 (both-left (eqb (getD log (2 * i) 0) 1) (eqb (getD log (2 * i + 1) 0) 0xb2) t))
+        (leaves p rom m d b (getD log (2 * i + 1) 0)
+        (eqb-true (getD log (2 * i + 1) 0) 0xb2 (both-right (eqb (getD log (2 * i) 0) 1) (eqb (getD log (2 * i + 1) 0) 0xb2) t)) {next = withAuto b Off} refl
+        ∙ (λ t. done (machine (record { display = d; bus = sym f t }) m)))
+
+    pub going-asks : {u : Asked} {after : List ℕ} → Asks (d .phase) b m a n (getD log (2 * i) 0) u after → u .done ≡ true
+        → Running p on rom log total s₀ (standing (record { display = d; bus = u .bus }) m after (u .given)) skips listed (i + 1)
+    going-asks {u} {after} k e =
+        let x = k .acts e p rom d (getD log (2 * i + 1) 0) refl in
+        subst (λ (w : List ℕ). Running p on rom log total s₀ (standing (record { display = d; bus = u .bus }) m w (u .given)) skips listed (i + 1)) (sym (x .holds))
+        (subst (λ (w : ℕ). Running p on rom log total s₀ (standing (record { display = d; bus = u .bus }) m (set a n (x .byte)) w) skips listed (i + 1)) (sym (x .counts))
+        (running-answers g h l _ refl (x .steps) (x .room)))
+
+    module _ {off : Bool} (e : off ≡ isOff (b .auto)) where
+      pub going-pushes : (eqb (getD log (2 * i) 0) 0 && off) ≡ true → {next : Bus} → next ≡ withPending b (pushed (b .pending) (getD log (2 * i + 1) 0))
+          → Running p on rom log total s₀ (standing (record { display = d; bus = next }) m a n) skips listed (i + 1)
+      going-pushes t f =
+          running-done g h l 0 (eqb-true (getD log (2 * i) 0) 0 (both-left (eqb (getD log (2 * i) 0) 0) off t))
+          (ap (λ (x : Auto). dataWriteOf x (machine (record { display = d; bus = b }) m) (getD log (2 * i + 1) 0)) (off-only (b .auto) (sym e ∙ both-right (eqb (getD log (2 * i) 0) 0) off t))
+          ∙ (λ t. done (machine (record { display = d; bus = sym f t }) m)))
+
+      pub going-tells : {told : Told} {after : List ℕ} → Tells b m (eqb (getD log (2 * i) 0) 1 && off) (getD log (2 * i + 1) 0) told after → told .done ≡ true
+          → Running p on rom log total s₀ (standing (record { display = d; bus = told .bus }) after a n) skips listed (i + 1)
+      going-tells k t =
+          running-done g h l 1 (eqb-true (getD log (2 * i) 0) 1 (both-left (eqb (getD log (2 * i) 0) 1) off (k .quiet t)))
+          (k .acts t (sym e ∙ both-right (eqb (getD log (2 * i) 0) 1) off (k .quiet t)) p rom d)
+
+      pub going-draws : {drawn : Drawn} → Draws d (eqb (getD log (2 * i) 0) 1 && off) (getD log (2 * i + 1) 0) drawn → drawn .done ≡ true → {next : Bus} → next ≡ withPending b none
+          → Running p on rom log total s₀ (standing (record { display = drawn .display; bus = next }) m a n) skips listed (i + 1)
+      going-draws {drawn} k t f =
+          running-done g h l 1 (eqb-true (getD log (2 * i) 0) 1 (both-left (eqb (getD log (2 * i) 0) 1) off (k .quiet t)))
+          (k .acts t b (sym e ∙ both-right (eqb (getD log (2 * i) 0) 1) off (k .quiet t)) p rom m ∙ (λ t. done (machine (record { display = drawn .display; bus = sym f t }) m)))

@@ -25,4 +25,6 @@ pub use Rattle.controller.specs.declared.run.Ran.{Ran}
 pub use Rattle.controller.specs.declared.run.RanOn.{RanOn}
 pub use Rattle.controller.specs.declared.run.Noted.{Noted}
 pub use Rattle.controller.specs.declared.run.Turned.{Turned}
-pub use Rattle.usual.specs.declared.apart.Taken.{Taken}
+pub use Rattle.usual.specs.declared.tell.Told.{Told}
+pub use Rattle.usual.specs.declared.draw.Drawn.{Drawn}
+pub use Rattle.usual.specs.declared.ask.Asked.{Asked}

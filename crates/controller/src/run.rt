@@ -8,6 +8,7 @@ ghost use Rattle.controller.specs.Access.{stepOf};
 ghost use Rattle.controller.specs.Run.{turnOf, runFrom, ranAll, stoppingOf, pairsOf};
 ghost use Rattle.controller.specs.Skip.{skipStep, begunOn, ranOnAll, ranOnOf, eitherRun, runOf};
 ghost use Rattle.controller.specs.Ready.{Runs, Blocked, standing, turnedAll, turnedOf, takenOf, answeredAll, answeredOf, notedAll, notedOf};
+use codes::command::is_off;
 use effects::effect::is_write;
 use ground::bytes::lesser;
 use single::access::Acted;
@@ -15,7 +16,13 @@ use single::access::access;
 use state::panel::Panel;
 use state::registers::Bus;
 use state::registers::Registers;
-use usual::apart::apart;
+use usual::ask::ask;
+use usual::draw::draw;
+use usual::part::datum;
+use usual::part::emptied;
+use usual::part::freed;
+use usual::part::ticked;
+use usual::tell::tell;
 
 // A number and place, the pairs taken, the answers written, the registers after.
 pub struct Ran {
@@ -199,11 +206,40 @@ fn pairs(
             i = end;
             continue;
         }
-        let usual = apart(display, bus, mem, answers, given, kind, byte);
-        if usual.done {
-            display = usual.display;
-            bus = usual.bus;
-            given = usual.given;
+        let off = is_off(auto);
+        if (kind == 0) & off {
+            bus = datum(bus, byte);
+            i += 1;
+            continue;
+        }
+        let quiet = (kind == 1) & off;
+        let told = tell(bus, mem, quiet, byte);
+        if told.done {
+            bus = told.bus;
+            i += 1;
+            continue;
+        }
+        let drawn = draw(display, quiet, byte);
+        if drawn.done {
+            display = drawn.display;
+            bus = emptied(bus);
+            i += 1;
+            continue;
+        }
+        if (kind == 1) & (byte == 0xb2) {
+            bus = freed(bus);
+            i += 1;
+            continue;
+        }
+        let asked = ask(display.phase, bus, mem, answers, given, kind);
+        if asked.done {
+            bus = asked.bus;
+            given = asked.given;
+            i += 1;
+            continue;
+        }
+        if kind == 4 {
+            display = ticked(display);
             i += 1;
             continue;
         }

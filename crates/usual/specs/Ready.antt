@@ -10,7 +10,7 @@ use Rattle.codes.specs.Command.{isOff}
 use Rattle.effects.specs.Effect.{withPending}
 use Rattle.effects.specs.Machine.{Machine, machine}
 use Rattle.sight.specs.Steps.{code, Step, done, answered, stepOf}
-use Rattle.usual.specs.Types.{Panel, Display, Bus, Told, Drawn, Ordered, Asked, Taken}
+use Rattle.usual.specs.Types.{Panel, Display, Bus, Told, Drawn, Asked}
 
 -- a command told to the bus and the memory alone, where auto is off: done as a step does it, whatever the display; or left, and all is as it was
 pub record Tells (b : Bus) (mem : List ℕ) (still : Bool) (k : ℕ) (told : Told) (after : List ℕ) : Type 0 where
@@ -25,12 +25,6 @@ pub record Draws (d : Display) (still : Bool) (k : ℕ) (drawn : Drawn) : Type 0
   pub acts : drawn .done ≡ true → (b : Bus) → isOff (b .auto) ≡ true → (p : Panel) (rom mem : List ℕ)
       → stepOf p rom (machine (record { display = d; bus = b }) mem) (code k) ≡ done (machine (record { display = drawn .display; bus = withPending b none }) mem)
 
--- a command
-pub record Orders (d : Display) (b : Bus) (mem : List ℕ) (k : ℕ) (u : Ordered) (after : List ℕ) : Type 0 where
-  pub acts : u .done ≡ true → (p : Panel) (rom : List ℕ)
-      → stepOf p rom (machine (record { display = d; bus = b }) mem) (code k) ≡ done (machine (record { display = u .display; bus = u .bus }) after)
-  pub keeps : u .done ≡ false → after ≡ mem
-
 -- a step that answers, and there is room for its byte
 pub record Answers (o : Step Machine) (m : Machine) (answers : List ℕ) (given : ℕ) (after : List ℕ) (next : ℕ) : Type 0 where
   pub byte : ℕ
@@ -44,14 +38,3 @@ pub record Asks (phase : Bool) (b : Bus) (mem answers : List ℕ) (given kind : 
   pub acts : u .done ≡ true → (p : Panel) (rom : List ℕ) (d : Display) (byte : ℕ) → d .phase ≡ phase
       → Answers (stepOf p rom (machine (record { display = d; bus = b }) mem) (record { kind = kind; byte = byte })) (machine (record { display = d; bus = u .bus }) mem) answers given after (u .given)
   pub keeps : u .done ≡ false → after ≡ answers
-
--- a step that is done, or answers
-pub data Takes (o : Step Machine) (m : Machine) (answers : List ℕ) (given : ℕ) (after : List ℕ) (next : ℕ) : Type 0 where
-  quietly : o ≡ done m → after ≡ answers → next ≡ given → Takes o m answers given after next
-  aloud : Answers o m answers given after next → Takes o m answers given after next
-
--- a pair
-pub record Usually (d : Display) (b : Bus) (mem answers : List ℕ) (given kind byte : ℕ) (u : Taken) (memory after : List ℕ) : Type 0 where
-  pub acts : u .done ≡ true → (p : Panel) (rom : List ℕ)
-      → Takes (stepOf p rom (machine (record { display = d; bus = b }) mem) (record { kind = kind; byte = byte })) (machine (record { display = u .display; bus = u .bus }) memory) answers given after (u .given)
-  pub keeps : u .done ≡ false → (memory ≡ mem) × (after ≡ answers)

@@ -15,6 +15,4 @@ pub use Rattle.codes.specs.declared.decode.Decoded.{Decoded}
 pub use Rattle.codes.specs.declared.decode.Decoded.the-variants.{Defined, Undefined}
 pub use Rattle.usual.specs.declared.tell.Told.{Told}
 pub use Rattle.usual.specs.declared.draw.Drawn.{Drawn}
-pub use Rattle.usual.specs.declared.order.Ordered.{Ordered}
 pub use Rattle.usual.specs.declared.ask.Asked.{Asked}
-pub use Rattle.usual.specs.declared.apart.Taken.{Taken}

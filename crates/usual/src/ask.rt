@@ -8,21 +8,14 @@ use effects::store::fetch;
 use state::registers::Bus;
 
 // A read done, or left: the bus then, the answers so far.
-pub(crate) struct Asked {
+pub struct Asked {
     pub bus: Bus,
     pub given: usize,
     pub done: bool,
 }
 
 // Status or data, where there is room for the answer.
-pub(crate) fn ask(
-    phase: bool,
-    bus: Bus,
-    mem: &[u8],
-    answers: &mut [u8],
-    given: usize,
-    kind: u8,
-) -> Asked
+pub fn ask(phase: bool, bus: Bus, mem: &[u8], answers: &mut [u8], given: usize, kind: u8) -> Asked
     ensures { λ r. ⌜ Asks phase bus (now (mem .entry)) (now (answers .entry)) given kind r (now (answers .exit)) ⌝ }
 {
     let auto = bus.auto;

@@ -9,7 +9,7 @@ use state::registers::Display;
 use state::registers::DisplayBits;
 
 // A command of the display alone, done or left as it was.
-pub(crate) struct Drawn {
+pub struct Drawn {
     pub display: Display,
     pub done: bool,
 }
@@ -33,7 +33,7 @@ fn mixed(display: Display, external: bool, combination: Combination) -> Drawn
 }
 
 // The commands that need no data and change the display alone: mode, display bits, cursor height. Any other is left.
-pub(crate) fn draw(display: Display, quiet: bool, code: u8) -> Drawn
+pub fn draw(display: Display, quiet: bool, code: u8) -> Drawn
     ensures { λ r. ⌜ Draws display quiet code r ⌝ }
 {
     let mut next = display;

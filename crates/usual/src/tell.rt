@@ -13,7 +13,7 @@ use state::registers::Bus;
 use state::registers::Pending;
 
 // A command of the bus alone, done or left as it was.
-pub(crate) struct Told {
+pub struct Told {
     pub bus: Bus,
     pub done: bool,
 }
@@ -25,7 +25,7 @@ fn left(bus: Bus) -> Told
 }
 
 // The commands that a drawing program sends most: pointer, auto, stores, loads and bits, where they are taken. Any other is left.
-pub(crate) fn tell(bus: Bus, mem: &mut [u8], quiet: bool, code: u8) -> Told
+pub fn tell(bus: Bus, mem: &mut [u8], quiet: bool, code: u8) -> Told
     ensures { λ r. ⌜ Tells bus (now (mem .entry)) quiet code r (now (mem .exit)) ⌝ }
 {
     let pending = bus.pending;
