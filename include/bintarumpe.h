@@ -136,6 +136,36 @@ unsigned t6963c_layers(unsigned long columns, unsigned long lines, unsigned long
                        const unsigned char *rom, unsigned long rom_length,
                        unsigned long row, unsigned long column);
 
+/* t6963c_access that keeps a flag for each dot row: `rows` are exactly 8 * lines bytes, 0 clear, else set; set them all to 1 at the
+   start. A taken pair sets those of the rows that read a byte it stored, or of all rows where it alters what decides the picture. */
+unsigned short t6963c_follow(unsigned long columns, unsigned long lines, unsigned long width, unsigned char dual,
+                             unsigned char *registers, unsigned long registers_length,
+                             unsigned char *memory, unsigned long memory_length,
+                             const unsigned char *rom, unsigned long rom_length,
+                             unsigned char kind, unsigned char byte,
+                             unsigned char *rows, unsigned long rows_length);
+
+/* t6963c_run that keeps the same flags, set by every pair that is not skipped. Nothing at all is touched where `rows` have another length. */
+unsigned char t6963c_follow_run(unsigned long columns, unsigned long lines, unsigned long width, unsigned char dual,
+                                unsigned char *registers, unsigned long registers_length,
+                                unsigned char *memory, unsigned long memory_length,
+                                const unsigned char *rom, unsigned long rom_length,
+                                const unsigned char *log, unsigned long log_length,
+                                unsigned long limit,
+                                unsigned char *answers, unsigned long answers_length,
+                                unsigned long *skips, unsigned long skips_length,
+                                unsigned long *counts, unsigned long counts_length,
+                                unsigned char *rows, unsigned long rows_length);
+
+/* The flagged rows painted, the others' bytes left, all flags cleared: the number. If the frame was right at the last refresh it then is
+   what t6963c_paint would give. A refusal leaves frame and flags as they were. */
+unsigned char t6963c_refresh(unsigned long columns, unsigned long lines, unsigned long width, unsigned char dual,
+                             const unsigned char *registers, unsigned long registers_length,
+                             const unsigned char *memory, unsigned long memory_length,
+                             const unsigned char *rom, unsigned long rom_length,
+                             unsigned char *frame, unsigned long frame_length,
+                             unsigned char *rows, unsigned long rows_length);
+
 #ifdef __cplusplus
 }
 #endif

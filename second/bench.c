@@ -14,7 +14,7 @@ int memcmp(const void *one, const void *other, unsigned long count);
 enum { ROUNDS = 15, LOG = 400000, FRAME = 8 * 32 * 80 };
 
 static unsigned char memory[SECOND_MEMORY_LENGTH], start[SECOND_MEMORY_LENGTH], rom[SECOND_ROM_LENGTH];
-static unsigned char log_bytes[LOG], answers[LOG], frame[FRAME], other[FRAME];
+static unsigned char log_bytes[LOG], answers[LOG], frame[FRAME], other[FRAME], rows[8 * 32];
 
 static double now(void)
 {
@@ -155,6 +155,95 @@ static int paints(void)
     return 0;
 }
 
+/* A state with text, graphic and a glyph bank apart from each other. */
+static void viewed(const struct second_panel *panel, unsigned pointer, unsigned auto_mode, unsigned char *bytes)
+{
+    struct second_registers r;
+    second_reset(&r);
+    r.text = 1, r.graphic = 1, r.combination = SECOND_EXOR, r.text_home = 0x4000, r.text_area = r.graphic_area = panel->columns;
+    r.offset = 31, r.external = 1, r.pointer = pointer, r.auto_mode = auto_mode;
+    to_bytes(&r, bytes);
+}
+
+/* The run with flags beside the ordinary one: blocks of data alone, then with their pointer, B0H and B2H. */
+static int flagged_runs(void)
+{
+    static const struct second_panel panels[] = {{30, 8, 8, 0}, {80, 16, 8, 0}};
+    static const char *const works[] = {"a block of 240 data, 30x8", "a block of 1,280 data, 80x16", "blocks of 240 and their commands, 30x8"};
+    for (unsigned which = 0; which < 3; which++) {
+        const struct second_panel *p = &panels[which == 1];
+        const unsigned long data = which == 1 ? 1280 : 240, length = which == 2 ? make(0) : 2 * data;
+        const unsigned times_each = which == 2 ? 1 : 100;
+        double times[2][ROUNDS];
+        for (unsigned long i = 0; which < 2 && i < data; i++)
+            put(2 * i, 0, (unsigned)i & 255);
+        for (unsigned round = 0; round < ROUNDS; round++)
+            for (unsigned flagged = 0; flagged < 2; flagged++) {
+                unsigned char b[REGISTERS];
+                unsigned long counts[4], list[16];
+                viewed(p, 0x4000, which < 2 ? 1 : 0, b);
+                for (unsigned i = 0; i < sizeof rows; i++)
+                    rows[i] = 0;
+                const double before = now();
+                for (unsigned i = 0; i < times_each; i++)
+                    if (flagged ? t6963c_follow_run(p->columns, p->lines, p->width, 0, b, REGISTERS, memory, SECOND_MEMORY_LENGTH, rom,
+                                                    SECOND_ROM_LENGTH, log_bytes, length, length, answers, LOG, list, 16, counts, 4, rows,
+                                                    8UL * p->lines)
+                                : t6963c_run(p->columns, p->lines, p->width, 0, b, REGISTERS, memory, SECOND_MEMORY_LENGTH, rom,
+                                             SECOND_ROM_LENGTH, log_bytes, length, length, answers, LOG, list, 16, counts, 4))
+                        return 1;
+                times[flagged][round] = now() - before;
+            }
+        const double plain = median(times[0]), kept = median(times[1]), units = (double)times_each * (double)length / 2;
+        printf("%-40s plain %12.0f pairs/s   with flags %12.0f pairs/s: %.2f of its time\n", works[which], units / plain, units / kept,
+               kept / plain);
+    }
+    return 0;
+}
+
+/* One byte stored in auto write, followed and refreshed, beside a frame painted afresh. */
+static int refreshes(void)
+{
+    static const struct second_panel p = {80, 16, 8, 0};
+    static const char *const works[] = {"a graphic byte stored", "a text byte stored", "a byte of no row stored"};
+    static const unsigned pointers[] = {40 * 80 + 7, 0x4000 + 5 * 80 + 3, 0x6000};
+    const unsigned long length = 8UL * p.lines * p.columns;
+    for (unsigned which = 0; which < 3; which++) {
+        double times[2][ROUNDS];
+        for (unsigned round = 0; round < ROUNDS; round++) {
+            unsigned char b[REGISTERS], kept[REGISTERS];
+            viewed(&p, pointers[which], 1, kept);
+            for (unsigned i = 0; i < sizeof rows; i++)
+                rows[i] = 1;
+            double before = now();
+            for (unsigned i = 0; i < 20; i++)
+                if (t6963c_paint(p.columns, p.lines, p.width, 0, kept, REGISTERS, memory, SECOND_MEMORY_LENGTH, rom, SECOND_ROM_LENGTH, frame,
+                                 length))
+                    return 1;
+            times[0][round] = now() - before;
+            t6963c_refresh(p.columns, p.lines, p.width, 0, kept, REGISTERS, memory, SECOND_MEMORY_LENGTH, rom, SECOND_ROM_LENGTH, frame, length,
+                           rows, 8UL * p.lines);
+            before = now();
+            for (unsigned i = 0; i < 20; i++) {
+                memcpy(b, kept, REGISTERS);
+                if (t6963c_follow(p.columns, p.lines, p.width, 0, b, REGISTERS, memory, SECOND_MEMORY_LENGTH, rom, SECOND_ROM_LENGTH, 0,
+                                  (unsigned char)(i * 37), rows, 8UL * p.lines) ||
+                    t6963c_refresh(p.columns, p.lines, p.width, 0, b, REGISTERS, memory, SECOND_MEMORY_LENGTH, rom, SECOND_ROM_LENGTH, frame,
+                                   length, rows, 8UL * p.lines))
+                    return 1;
+            }
+            times[1][round] = now() - before;
+            t6963c_paint(p.columns, p.lines, p.width, 0, b, REGISTERS, memory, SECOND_MEMORY_LENGTH, rom, SECOND_ROM_LENGTH, other, length);
+            if (memcmp(frame, other, length)) {
+                printf("the refreshed frame differs\n");
+                return 1;
+            }
+        }
+        printf("%-40s followed and refreshed, 80x16: %.3f of the time of a frame\n", works[which], median(times[1]) / median(times[0]));
+    }
+    return 0;
+}
+
 int main(void)
 {
     struct generate_random random = {7};
@@ -164,5 +253,5 @@ int main(void)
         rom[i] = (unsigned char)generate_next(&random);
     memcpy(memory, start, SECOND_MEMORY_LENGTH);
     printf("pairs or frames a second; in brackets the proved one as a multiple of the other\n");
-    return runs() || paints();
+    return runs() || paints() || flagged_runs() || refreshes();
 }

@@ -204,8 +204,7 @@ int second_position(const struct second_panel *panel, const struct second_regist
     return 0;
 }
 
-/* The number for panel, state, memory and ROM: 0, 1 or 2. */
-static unsigned lent_number(const struct second_panel *panel, const struct second_registers *registers,
+unsigned second_lent_number(const struct second_panel *panel, const struct second_registers *registers,
                             unsigned long memory_length, unsigned long rom_length)
 {
     if (!second_panel_valid(panel)) return 1;
@@ -222,11 +221,26 @@ struct second_layers_reply second_show_layers(const struct second_panel *panel,
                                               unsigned row, unsigned column)
 {
     struct second_layers_reply reply = {0, {0, 0, 0}};
-    reply.number = lent_number(panel, registers, memory_length, rom_length);
+    reply.number = second_lent_number(panel, registers, memory_length, rom_length);
     if (reply.number != 0) return reply;
     if (row >= 8 * panel->lines || column >= panel->columns) return reply;
     reply.layers = second_displayed(panel, registers, memory, rom, row, column);
     return reply;
+}
+
+void second_paint_row(const struct second_panel *panel, const struct second_registers *registers,
+                      const unsigned char *memory, const unsigned char *rom, unsigned row, unsigned char *stretch)
+{
+    unsigned place, bit;
+    for (place = 0; place < second_row_length(panel); place++) {
+        unsigned packed = 0;
+        for (bit = 0; bit < 8; bit++) {
+            unsigned x = 8 * place + bit;
+            if (x >= panel->columns * panel->width) continue; /* a spare bit stays 0 */
+            if (second_dot(panel, registers, memory, rom, x, row)) packed |= 0x80U >> bit;
+        }
+        stretch[place] = (unsigned char)packed;
+    }
 }
 
 unsigned second_frame(const struct second_panel *panel, const struct second_registers *registers,
@@ -234,21 +248,12 @@ unsigned second_frame(const struct second_panel *panel, const struct second_regi
                       const unsigned char *rom, unsigned long rom_length,
                       unsigned char *frame, unsigned long frame_length)
 {
-    unsigned row, place, bit;
-    unsigned number = lent_number(panel, registers, memory_length, rom_length);
+    unsigned row;
+    unsigned number = second_lent_number(panel, registers, memory_length, rom_length);
     if (number != 0) return number;
     if (frame_length != second_frame_length(panel)) return 2;
-
     for (row = 0; row < 8 * panel->lines; row++) {
-        for (place = 0; place < second_row_length(panel); place++) {
-            unsigned packed = 0;
-            for (bit = 0; bit < 8; bit++) {
-                unsigned x = 8 * place + bit;
-                if (x >= panel->columns * panel->width) continue; /* a spare bit stays 0 */
-                if (second_dot(panel, registers, memory, rom, x, row)) packed |= 0x80U >> bit;
-            }
-            frame[row * second_row_length(panel) + place] = (unsigned char)packed;
-        }
+        second_paint_row(panel, registers, memory, rom, row, frame + row * second_row_length(panel));
     }
     return 0;
 }
@@ -462,7 +467,7 @@ struct second_reply second_access(const struct second_panel *panel, struct secon
     struct second_reply reply;
     reply.place = 0;
     reply.read = 0;
-    reply.number = lent_number(panel, registers, memory_length, rom_length);
+    reply.number = second_lent_number(panel, registers, memory_length, rom_length);
     if (reply.number != 0) return reply;
     reply.number = pair_number(registers, kind, byte);
     if (reply.number != 0) return reply;
@@ -476,7 +481,7 @@ static struct second_run_reply run_start(const struct second_panel *panel, const
                                          unsigned long log_length)
 {
     struct second_run_reply reply = {0, 0, 0, 0, 0};
-    reply.number = lent_number(panel, registers, memory_length, rom_length);
+    reply.number = second_lent_number(panel, registers, memory_length, rom_length);
     if (reply.number == 0 && log_length % 2 != 0) {
         reply.number = 8;
         reply.place = log_length / 2;

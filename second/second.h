@@ -77,7 +77,11 @@ int second_state_valid(const struct second_registers *registers);
 unsigned long second_row_length(const struct second_panel *panel);
 unsigned long second_frame_length(const struct second_panel *panel);
 
-/* The next four ask for a valid panel and state, full lengths, and a row and column inside the panel. */
+/* The number for panel, state, memory and ROM: 0, 1 or 2. */
+unsigned second_lent_number(const struct second_panel *panel, const struct second_registers *registers,
+                            unsigned long memory_length, unsigned long rom_length);
+
+/* The next five ask for a valid panel and state, full lengths, and a row and column inside the panel. */
 struct second_layers second_displayed(const struct second_panel *panel, const struct second_registers *registers,
                                       const unsigned char *memory, const unsigned char *rom,
                                       unsigned row, unsigned column);
@@ -85,6 +89,9 @@ int second_cursor_covers(const struct second_panel *panel, const struct second_r
                          unsigned row, unsigned column);
 int second_dot(const struct second_panel *panel, const struct second_registers *registers,
                const unsigned char *memory, const unsigned char *rom, unsigned x, unsigned row);
+/* The row's stretch of the frame, second_row_length bytes. */
+void second_paint_row(const struct second_panel *panel, const struct second_registers *registers,
+                      const unsigned char *memory, const unsigned char *rom, unsigned row, unsigned char *stretch);
 /* 1 and the pointer's first position, or 0 and both places unchanged. */
 int second_position(const struct second_panel *panel, const struct second_registers *registers,
                     unsigned *row, unsigned *column);

@@ -116,8 +116,55 @@ static int halves(void)
     return 0;
 }
 
+static unsigned long set(const unsigned char *rows, unsigned long count)
+{
+    unsigned long i, n = 0;
+    for (i = 0; i < count; i++)
+        n += rows[i] != 0;
+    return n;
+}
+
+static unsigned follow(unsigned char kind, unsigned char byte, unsigned char *rows, unsigned long rows_length)
+{
+    return t6963c_follow(1, 2, 8, T6963C_SINGLE, r, sizeof r, memory, sizeof memory, rom, sizeof rom, kind, byte, rows, rows_length);
+}
+
+static int viewed(void)
+{
+    static const unsigned char log[] = {0, 9, 1, 0xC4, 4, 0, 2, 0, 1, 0xFF, 1, 0x47, 3, 0};
+    unsigned char rows[17], answers[2], painted[16];
+    unsigned long counts[T6963C_COUNTS_SIZE], skips[4], i;
+    t6963c_reset(r, sizeof r);
+    r[T6963C_TEXT_HOME + 1] = 0x40;
+    r[T6963C_TEXT_AREA] = r[T6963C_GRAPHIC_AREA] = 1;
+    r[T6963C_TEXT_ON] = r[T6963C_GRAPHIC_ON] = 1;
+    for (i = 0; i < 17; i++)
+        rows[i] = 1;
+    HOLDS(t6963c_refresh(1, 2, 8, T6963C_SINGLE, r, sizeof r, memory, sizeof memory, rom, sizeof rom, frame, 16, rows, 17) ==
+          T6963C_LENGTH && set(rows, 17) == 17);
+    HOLDS(t6963c_refresh(1, 2, 8, T6963C_SINGLE, r, sizeof r, memory, sizeof memory, rom, sizeof rom, frame, 16, rows, 16) ==
+          T6963C_DONE && set(rows, 16) == 0 && rows[16] == 1);
+    HOLDS(follow(0, 0x55, rows, 17) == T6963C_LENGTH && r[T6963C_PENDING] == 0);
+    HOLDS(follow(0, 0x55, rows, 16) == T6963C_DONE && r[T6963C_PENDING] == 1 && set(rows, 16) == 0);
+    r[T6963C_POINTER] = 5;
+    HOLDS(follow(1, 0xC0, rows, 16) == T6963C_DONE && r[T6963C_POINTER] == 6 && set(rows, 16) == 1 && rows[5] == 1);
+    HOLDS(follow(1, 0xC0, rows, 16) == T6963C_FEW_DATA && set(rows, 16) == 1);
+    r[T6963C_POINTER + 1] = 0x40, r[T6963C_POINTER] = 1;
+    HOLDS(t6963c_follow_run(1, 2, 8, T6963C_SINGLE, r, sizeof r, memory, sizeof memory, rom, sizeof rom, log, 4, 2, answers, 2, skips, 4, counts,
+                            T6963C_COUNTS_SIZE, rows, 16) == T6963C_DONE && counts[T6963C_TAKEN] == 2 && set(rows, 16) == 9 && rows[8] == 1);
+    HOLDS(t6963c_follow_run(1, 2, 8, T6963C_SINGLE, r, sizeof r, memory, sizeof memory, rom, sizeof rom, log, sizeof log, 99, answers, 2, skips, 4,
+                            counts, T6963C_COUNTS_SIZE, rows, 16) == T6963C_DONE && counts[T6963C_TAKEN] == 7 && counts[T6963C_ANSWERS] == 2 &&
+          counts[T6963C_SKIPPED] == 1 && skips[1] == 5 && set(rows, 16) == 16);
+    HOLDS(t6963c_refresh(1, 2, 8, T6963C_SINGLE, r, sizeof r, memory, sizeof memory, rom, sizeof rom, frame, 16, rows, 16) == T6963C_DONE);
+    HOLDS(t6963c_paint(1, 2, 8, T6963C_SINGLE, r, sizeof r, memory, sizeof memory, rom, sizeof rom, painted, 16) == T6963C_DONE);
+    for (i = 0; i < 16; i++)
+        HOLDS(frame[i] == painted[i] && rows[i] == 0);
+    return 0;
+}
+
 int main(void)
 {
-    const int line = tried();
-    return line ? line : halves();
+    int line = tried();
+    line = line ? line : halves();
+    return line ? line : viewed();
 }

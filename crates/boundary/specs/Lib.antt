@@ -2,3 +2,4 @@ pub mod Types
 pub mod Image
 pub mod Door
 pub mod Exports
+pub mod Following

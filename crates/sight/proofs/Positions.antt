@@ -1,6 +1,6 @@
 -- Where the pointer stands: found at a position that no earlier one shares, or nowhere.
 use mathlib.Core.Path.{_≡_, ap, sym, _∙_}
-use mathlib.Core.Bool.{true}
+use mathlib.Core.Bool.{Bool, true, false, cond}
 use Prim.Native.Nat.{ℕ, _+_, _*_, _%_, _<_, _≤_}
 use native.Mathlib.Nat.{mod-eq-of-lt, mod-add-mod, zero-mul, suc-mul}
 use native.Mathlib.Numerals.{add-one}
@@ -10,8 +10,9 @@ use borrow.Author.Tests.{eq-eqb, ne-eqb, eqb-true}
 use Rattle.ground.specs.Lists.{build}
 use Rattle.ground.proofs.Searches.{Passed, each-built, each-joined, first-has, first-none, first-found, build-passed, build-finds, joined-passed, joined-finds}
 use Rattle.sight.specs.Types.{Panel, Plane, Position, At, Nowhere}
+use Rattle.state.specs.State.{validPanel}
 use Rattle.display.specs.Displayed.{addressOf}
-use Rattle.sight.specs.Position.{positions, standsAt, positionOf}
+use Rattle.sight.specs.Position.{positions, standsAt, positionOf, locatedOf}
 
 module _ (p : Panel) (q : Plane) (pointer : ℕ) where
   -- no column of dot row r
@@ -100,3 +101,11 @@ module _ (p : Panel) (q : Plane) {pointer start row : ℕ} (k : Searching (p .co
 
   pub search-over : 8 * p .lines ≤ row → Nowhere ≡ positionOf p q pointer
   search-over h = sym (position-none p q pointer (λ i c l m e. k .missed i c (omega arith) m e))
+
+-- asked of any panel
+module _ (p : Panel) (q : Plane) (pointer : ℕ) where
+  pub located-on : {x : Position} → validPanel p ≡ true → x ≡ positionOf p q pointer → x ≡ locatedOf p q pointer
+  located-on v e = e ∙ sym (ap (λ (t : Bool). cond t (positionOf p q pointer) Nowhere) v)
+
+  pub located-off : validPanel p ≡ false → Nowhere ≡ locatedOf p q pointer
+  located-off v = sym (ap (λ (t : Bool). cond t (positionOf p q pointer) Nowhere) v)

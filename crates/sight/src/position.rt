@@ -1,7 +1,7 @@
 // Where the pointer stands on the panel.
 ghost use mathlib.Core.Path.{_≡_};
 ghost use Prim.Native.Nat.{_≤_};
-ghost use Rattle.sight.specs.Position.{positionOf};
+ghost use Rattle.sight.specs.Position.{positionOf, locatedOf};
 use state::panel::Panel;
 use state::registers::Plane;
 
@@ -28,6 +28,16 @@ pub(crate) fn find(panel: Panel, graphic: Plane, pointer: u16) -> Position
         }
         start = std::num::wrapping_add_u16(start, area);
         row += 1;
+    }
+    Position::Nowhere
+}
+
+// The same of any panel: one that is not valid has no position.
+pub fn locate(panel: Panel, graphic: Plane, pointer: u16) -> Position
+    ensures { λ r. ⌜ r ≡ locatedOf panel graphic pointer ⌝ }
+{
+    if panel.valid() {
+        return find(panel, graphic, pointer);
     }
     Position::Nowhere
 }

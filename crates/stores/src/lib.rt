@@ -1,0 +1,2 @@
+// Which bytes a pair stores.
+pub mod stores;

@@ -1,0 +1,4 @@
+pub mod Anys
+pub mod Meets
+pub mod Searched
+pub mod Marks

@@ -1,0 +1,4 @@
+pub mod Types
+pub mod Touch
+pub mod Marked
+pub mod Ready

@@ -1,0 +1,2 @@
+// Which rows some addresses touch.
+pub mod touch;

@@ -1,0 +1,5 @@
+pub mod Stretches
+pub mod Quicks
+pub mod Turning
+pub mod RunDoors
+pub mod RunRights

@@ -1,0 +1,4 @@
+pub mod Types
+pub mod Watched
+pub mod Runs
+pub mod Claims

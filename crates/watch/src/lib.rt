@@ -1,0 +1,2 @@
+// A run that keeps the flags.
+pub mod run;
