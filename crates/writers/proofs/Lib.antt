@@ -1,0 +1,4 @@
+pub mod Notes
+pub mod Quicks
+pub mod Follows
+pub mod Claimed

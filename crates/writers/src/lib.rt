@@ -1,0 +1,5 @@
+// Who wrote there: the stores of a log into a stretch of memory.
+mod block;
+pub mod list;
+mod note;
+mod quick;
