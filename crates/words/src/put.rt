@@ -18,6 +18,33 @@ pub fn put(out: &mut [u8], at: usize, text: &[u8]) -> usize {
     w
 }
 
+fn put_where(out: &mut [u8], at: usize, byte: u8, here: bool) -> usize {
+    if here { put_byte(out, at, byte) } else { at }
+}
+
+// The pieces of a text that are still before the wanted one.
+fn before(left: u8, byte: u8) -> u8 {
+    if byte == b'\n' {
+        std::num::wrapping_sub_u8(left, 1)
+    } else {
+        left
+    }
+}
+
+// Piece n of a text whose pieces stand a line each: one text for a choice of words costs less to prove than a text for each.
+pub fn put_piece(out: &mut [u8], at: usize, text: &[u8], n: u8) -> usize {
+    let mut w = at;
+    let mut left = n;
+    let mut i: usize = 0;
+    while i < text.len() {
+        let byte = text[i];
+        w = put_where(out, w, byte, (left == 0) & (byte != b'\n'));
+        left = before(left, byte);
+        i += 1;
+    }
+    w
+}
+
 pub fn put_decimal(out: &mut [u8], at: usize, n: usize) -> usize {
     let mut digits = [0u8; 20];
     let k = io::decimal(n as u64, &mut digits);

@@ -1,39 +1,52 @@
 // What the data of a command set.
 use crate::put::put;
 use crate::put::put_address;
+use crate::put::put_decimal;
 use crate::put::put_number;
 use codes::command::Target;
 use state::registers::Registers;
 
-// What the data of a command set: its name and, where it was taken, what it holds now.
-fn put_home(out: &mut [u8], at: usize, word: &[u8], home: u16, taken: bool) -> usize {
-    let a = put(out, at, word);
-    if taken {
-        let b = put(out, a, b" = ");
-        put_address(out, b, home)
-    } else {
-        a
+// What a target holds; of the cursor, its X.
+fn held(target: Target, registers: Registers) -> u16 {
+    let display = registers.display;
+    let pointer = registers.bus.pointer;
+    match target {
+        Target::Cursor => display.cursor.x as u16,
+        Target::Offset => display.offset as u16,
+        Target::Pointer => pointer,
+        Target::TextHome => display.text.home,
+        Target::TextArea => display.text.area as u16,
+        Target::GraphicHome => display.graphic.home,
+        Target::GraphicArea => display.graphic.area as u16,
     }
 }
 
-fn put_area(out: &mut [u8], at: usize, word: &[u8], area: u8, taken: bool) -> usize {
-    let a = put(out, at, word);
-    if taken {
-        put_number(out, a, b" = ", area)
-    } else {
-        a
+// How a target is written: 0 a number, 1 an address, 2 two numbers.
+fn form(target: Target) -> u8 {
+    match target {
+        Target::Cursor => 2,
+        Target::Offset => 0,
+        Target::Pointer => 1,
+        Target::TextHome => 1,
+        Target::TextArea => 0,
+        Target::GraphicHome => 1,
+        Target::GraphicArea => 0,
     }
 }
 
-fn put_cursor(out: &mut [u8], at: usize, x: u8, y: u8, taken: bool) -> usize {
-    let a = put_area(out, at, b"cursor", x, taken);
-    if taken {
+fn put_value(out: &mut [u8], at: usize, form: u8, value: u16, y: u8) -> usize {
+    if form == 1 {
+        return put_address(out, at, value);
+    }
+    let a = put_decimal(out, at, value as usize);
+    if form == 2 {
         put_number(out, a, b", ", y)
     } else {
         a
     }
 }
 
+// What a target holds now, where its command was taken.
 pub fn put_target(
     out: &mut [u8],
     at: usize,
@@ -41,15 +54,11 @@ pub fn put_target(
     registers: Registers,
     taken: bool,
 ) -> usize {
-    let display = registers.display;
-    let bus = registers.bus;
-    match target {
-        Target::Cursor => put_cursor(out, at, display.cursor.x, display.cursor.y, taken),
-        Target::Offset => put_area(out, at, b"offset", display.offset, taken),
-        Target::Pointer => put_home(out, at, b"pointer", bus.pointer, taken),
-        Target::TextHome => put_home(out, at, b"text home", display.text.home, taken),
-        Target::TextArea => put_area(out, at, b"text area", display.text.area, taken),
-        Target::GraphicHome => put_home(out, at, b"graphic home", display.graphic.home, taken),
-        Target::GraphicArea => put_area(out, at, b"graphic area", display.graphic.area, taken),
+    if !taken {
+        return at;
     }
+    let value = held(target, registers);
+    let y = registers.display.cursor.y;
+    let a = put(out, at, b" = ");
+    put_value(out, a, form(target), value, y)
 }
