@@ -13,7 +13,7 @@ use Rattle.effects.specs.Machine.{machine}
 use Rattle.effects.specs.Effect.{isWrite, withBus, withPointer, withAuto, withPending, pushed}
 use Rattle.controller.specs.Types.{Panel, Auto, Off, Write, Read, Bus, Pending}
 use Rattle.controller.specs.Access.{Pair, done, code, dataWriteOf, stepOf}
-use Rattle.controller.proofs.Tells.{tells-pointer, tells-auto, leaves}
+use Rattle.usual.proofs.Tells.{tells-pointer, tells-auto, leaves}
 use Rattle.stores.specs.Stores.{codeStores, storesOf}
 use Rattle.watch.specs.Types.{Registers, Quick}
 use Rattle.watch.specs.Runs.{Quickly}
