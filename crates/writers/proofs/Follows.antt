@@ -8,7 +8,7 @@ use native.Mathlib.Omega.{arith}
 use lib.Dec.{eqb, leb, ltb}
 use lib.ListN.{length, getD, take, drop, set}
 use lib.Seq.{sets, take-all, getD-set-same}
-use borrow.Author.Tests.{eq-eqb, ne-eqb, eqb-true, eqb-false, le-leb, lt-leb, ltb-false}
+use borrow.Author.Tests.{eq-eqb, ne-eqb, eqb-true, eqb-false, le-leb, lt-leb, ltb-true, ltb-false}
 use Rattle.ground.specs.Lists.{stored}
 use Rattle.ground.proofs.Tests.{both, both-left, both-right, settled}
 use Rattle.state.specs.State.{validPanel, validRegisters, none}
@@ -29,6 +29,7 @@ use Rattle.controller.proofs.Laws.{Sounds, sounds, sounds-valid, step-sound}
 use Rattle.controller.proofs.Goings.{Leaves, Going, going, going-ends, going-done}
 use Rattle.controller.proofs.Readied.{runs-lengths}
 use Rattle.controller.proofs.Runs.{pairs-length}
+use Rattle.usual.specs.Ready.{Tells, Draws}
 use Rattle.usual.proofs.Tells.{leaves}
 use Rattle.controller.proofs.Turns.{step-number}
 use Rattle.stores.specs.Stores.{copyStores, commandStores, codeStores, storesOf, storesAsked, fromAddress}
@@ -37,7 +38,7 @@ use Rattle.writers.specs.Stretch as stretch
 use Rattle.writers.specs.Stretch.{store, inStretch, storeAt, storesIn, numbersOf}
 use Rattle.writers.specs.Listing.{Listing, listing, listedBy, listBy, listStep, begunList}
 use Rattle.writers.specs.Listed.{ListedAll, listedAll, unlisted, roomOf, capped, listedOf, listOf}
-use Rattle.writers.specs.Ready.{Noting, noting, entered, notedBy, notedAll, Keeps, Held, Clear, Puts, Tells, Draws}
+use Rattle.writers.specs.Ready.{Noting, noting, entered, notedBy, notedAll, Keeps, Noted, Singles, Held, Clear}
 use Rattle.writers.proofs.Notes.{Holds, holds-none, holds-all, notes-none, notes-one, notes-same, storesBy, capped-least}
 
 -- a pair stores at most eighty bytes
@@ -122,6 +123,9 @@ module _ {p : Panel} {rom : List ℕ} {first last : ℕ} {log : List ℕ} {total
 
   pub memory-long : length m ≡ 65536
   memory-long = g .goes-on .sound .sound .memory
+
+  pub kept-on : {m′ : List ℕ} → m′ ≡ m → Following p rom first last log total s₀ list₀ r m′ list count i
+  kept-on e = subst (λ (x : List ℕ). Following p rom first last log total s₀ list₀ r x list count i) (sym e) g
 
   pub list-long : length list ≡ length list₀
   list-long = g .holds .long
@@ -275,10 +279,10 @@ module _ {p : Panel} {rom : List ℕ} {first last : ℕ} {log : List ℕ} {total
       (ap (λ (z : Auto). cond (isWrite z) 1 0) a) (x .0)))
 
   module _ {off : Bool} (e : off ≡ isOff (b .auto)) where
-    pub follows-push : (eqb kind 0 && off) ≡ true → {q : Pending} → q ≡ pushed (b .pending) byte → On d (withPending b q) m list count
-    follows-push t {q} f =
+    pub follows-push : (eqb kind 0 && off) ≡ true → {next : Bus} → next ≡ withPending b (pushed (b .pending) byte) → On d next m list count
+    follows-push t f =
         let a : b .auto ≡ Off = off-only (b .auto) (sym e ∙ both-right (eqb kind 0) off t) in
-        subst (λ (x : Pending). On d (withPending b x) m list count) (sym f)
+        subst (λ (x : Bus). On d x m list count) (sym f)
         (follows-quiet g h l 0 (eqb-true kind 0 (both-left (eqb kind 0) off t))
         (ap (λ (z : Auto). dataWriteOf z (machine (record { display = d; bus = b }) m) byte) a)
         (ap (λ (z : Auto). cond (isWrite z) 1 0) a))
@@ -289,40 +293,69 @@ module _ {p : Panel} {rom : List ℕ} {first last : ℕ} {log : List ℕ} {total
         follows-heard g h l 2 (eqb-true kind 2 (both-left (eqb kind 2) off t))
         (ap (λ (z : Auto). dataReadOf z (machine (record { display = d; bus = b }) m)) a) refl
 
-    module _ {was : ℕ} (w : was ≡ getD m (b .pointer) 0) where
-      pub follows-put : {told : Told} → Puts b was (eqb kind 1 && off) byte told → told .done ≡ true → {m′ list′ : List ℕ} {count′ : ℕ}
-          → Keeps m (b .pointer) (told .byte) m′ (notedBy first last (store i (b .pointer) (getD m (b .pointer) 0) (told .byte)) (noting count list)) (noting count′ list′)
-          → On d (told .bus) m′ list′ count′
-      follows-put {told} k t {m′} {list′} {count′} f =
-          let q = k .quiet t in
-          let x = noted-one g h l refl f (record { display = d; bus = told .bus }) in
-          subst (λ (y : List ℕ). On d (told .bus) y list′ count′) (sym (x .1))
-          (follows-done g h l 1 (eqb-true kind 1 (both-left (eqb kind 1) off q))
-          (k .acts t (sym e ∙ both-right (eqb kind 1) off q) p rom m d w) (k .counts t p d) (x .0))
+    module _ {n : ℕ} (s : Singles byte n) where
+      -- a command told to the bus and the memory: the byte it stores is noted, if it stores one
+      module _ {told : Told} {m′ : List ℕ} (k : Tells b m ((eqb kind 1 && off) && ltb n 2) byte told m′) (t : told .done ≡ true) where
+        still : (eqb kind 1 && off) ≡ true
+        still = both-left (eqb kind 1 && off) (ltb n 2) (k .quiet t)
 
-      pub follows-tell : {told : Told} → Tells b was (eqb kind 1 && off) byte told → told .done ≡ true → On d (told .bus) m list count
-      follows-tell {told} k t =
-          let q = k .quiet t in
-          follows-quiet g h l 1 (eqb-true kind 1 (both-left (eqb kind 1) off q))
-          (k .acts t (sym e ∙ both-right (eqb kind 1) off q) p rom m d w) (k .counts t p d)
+        small : n < 2
+        small = ltb-true n 2 (both-right (eqb kind 1 && off) (ltb n 2) (k .quiet t))
 
-    pub follows-draw : {drawn : Drawn} → Draws d (eqb kind 1 && off) byte drawn → drawn .done ≡ true → On (drawn .display) (withPending b none) m list count
-    follows-draw {drawn} k t =
-        let q = k .quiet t in
-        follows-quiet g h l 1 (eqb-true kind 1 (both-left (eqb kind 1) off q))
-        (k .acts t b (sym e ∙ both-right (eqb kind 1) off q) p rom m) (k .counts t p b)
+        abbrev next : Machine
+        next = machine (record { display = d; bus = told .bus }) m′
+
+        acted : stepOf p rom (machine (record { display = d; bus = b }) m) (record { kind = 1; byte = byte }) ≡ done next
+        acted = k .acts t (sym e ∙ both-right (eqb kind 1) off still) p rom d
+
+        pub told-long : length m′ ≡ 65536
+        told-long =
+            let x : Leaves Sounds (done next) =
+            subst (Leaves Sounds) acted (step-sound p rom (machine (record { display = d; bus = b }) m) (g .goes-on .sound .sound) (record { kind = 1; byte = byte })) in
+            x .memory
+
+        pub follows-told : {was : ℕ} → was ≡ getD m (b .pointer) 0 → {x : Noting}
+            → Noted (b .pointer) (cond (eqb n 1) (notedBy first last (store i (b .pointer) was (getD m′ (b .pointer) 0)) (noting count list)) (noting count list)) x
+            → On d (told .bus) m′ (x .list) (x .count)
+        follows-told {was} w {x} f =
+            follows-done g h l 1 (eqb-true kind 1 (both-left (eqb kind 1) off still)) {t = next} {k = n} acted
+            (s .counts small p (record { display = d; bus = b })) {x = x} (f .notes ∙ by-count n small)
+          where
+            here : b .pointer ≡ fromAddress (b .pointer) 0
+            here = let low = f .low in omega arith
+
+            by-count : (j : ℕ) → j < 2
+                → cond (eqb j 1) (notedBy first last (store i (b .pointer) was (getD m′ (b .pointer) 0)) (noting count list)) (noting count list)
+                ≡ notedAll first last (storeAt i (machine (record { display = d; bus = b }) m) next) j (noting count list)
+            by-count zero q = notes-none first last (storeAt i (machine (record { display = d; bus = b }) m) next) (noting count list)
+            by-count (suc zero) q =
+                (λ j. notedBy first last (store i (b .pointer) (w j) (getD m′ (b .pointer) 0)) (noting count list))
+                ∙ (λ j. notedBy first last (store i (here j) (getD m (here j) 0) (getD m′ (here j) 0)) (noting count list))
+                ∙ notes-one first last (storeAt i (machine (record { display = d; bus = b }) m) next) (noting count list)
+            by-count (suc (suc j)) q = absurd (let y : ⊥ = omega arith in y)
+
+      pub follows-draw : {drawn : Drawn} → Draws d (((eqb kind 1 && off) && ltb n 2) && eqb n 0) byte drawn → drawn .done ≡ true
+          → {next : Bus} → next ≡ withPending b none → On (drawn .display) next m list count
+      follows-draw {drawn} k t f =
+          let q = both-left ((eqb kind 1 && off) && ltb n 2) (eqb n 0) (k .quiet t) in
+          let z : n ≡ 0 = eqb-true n 0 (both-right ((eqb kind 1 && off) && ltb n 2) (eqb n 0) (k .quiet t)) in
+          let u = both-left (eqb kind 1 && off) (ltb n 2) q in
+          subst (λ (x : Bus). On (drawn .display) x m list count) (sym f)
+          (follows-quiet g h l 1 (eqb-true kind 1 (both-left (eqb kind 1) off u))
+          (k .acts t b (sym e ∙ both-right (eqb kind 1) off u) p rom m) (s .counts (omega (arith, z)) p (record { display = d; bus = b }) ∙ z))
 
   pub follows-status : kind ≡ 3 → On d b m list count
   follows-status t = follows-heard g h l 3 t refl refl
 
-  pub follows-tick : kind ≡ 4 → On (withPhase d (not (d .phase))) b m list count
-  follows-tick t = follows-quiet g h l 4 t refl refl
+  pub follows-tick : kind ≡ 4 → {next : Display} → next ≡ withPhase d (not (d .phase)) → On next b m list count
+  follows-tick t f = subst (λ (x : Display). On x b m list count) (sym f) (follows-quiet g h l 4 t refl refl)
 
-  pub follows-leave : (eqb kind 1 && eqb byte 0xb2) ≡ true → {next : Bus} → next ≡ withAuto b Off → On d (withPending next none) m list count
+  pub follows-leave : (eqb kind 1 && eqb byte 0xb2) ≡ true → {next : Bus} → next ≡ withPending (withAuto b Off) none → On d next m list count
   follows-leave t f =
       let k : byte ≡ 0xb2 = eqb-true byte 0xb2 (both-right (eqb kind 1) (eqb byte 0xb2) t) in
-      follows-quiet g h l 1 (eqb-true kind 1 (both-left (eqb kind 1) (eqb byte 0xb2) t))
-      (leaves p rom m d b byte k f) (ap (λ (n : ℕ). codeStores p (record { display = d; bus = b }) (decodeOf n)) k)
+      subst (λ (x : Bus). On d x m list count) (sym f)
+      (follows-quiet g h l 1 (eqb-true kind 1 (both-left (eqb kind 1) (eqb byte 0xb2) t))
+      (leaves p rom m d b byte k refl) (ap (λ (n : ℕ). codeStores p (record { display = d; bus = b }) (decodeOf n)) k))
 
   pub follows-read : {read : Bool} → read ≡ isRead (b .auto) → (eqb kind 2 && read) ≡ true → {next : ℕ} → next ≡ movedOf Up (b .pointer)
       → On d (withPointer b next) m list count

@@ -1,4 +1,4 @@
 pub mod Notes
-pub mod Quicks
+pub mod Singly
 pub mod Follows
 pub mod Claimed

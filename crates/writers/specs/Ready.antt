@@ -1,18 +1,14 @@
 -- What inner routines rest on, tested once at the door, and what each of them gives.
 use mathlib.Core.Path.{_≡_}
-use mathlib.Core.Bool.{Bool, true, false, cond}
+use mathlib.Core.Bool.{false, cond}
 use mathlib.Core.List.{List, [], _∷_}
 use Prim.Native.Nat.{ℕ, zero, suc, _+_, _*_, _<_}
 use lib.Dec.{ltb}
 use lib.ListN.{getD, set}
 use lib.Seq.{sets}
-use Rattle.state.specs.State.{none}
-use Rattle.codes.specs.Command.{isOff, decodeOf}
-use Rattle.effects.specs.Machine.{machine}
-use Rattle.effects.specs.Effect.{withPending}
-use Rattle.controller.specs.Access.{code, done, stepOf}
+use Rattle.codes.specs.Command.{decodeOf}
 use Rattle.stores.specs.Stores.{codeStores, fromAddress}
-use Rattle.writers.specs.Types.{Panel, Display, Bus, Told, Drawn}
+use Rattle.writers.specs.Types.{Panel, Registers}
 use Rattle.writers.specs.Stretch.{Store, inStretch}
 use Rattle.writers.specs.Listed.{roomOf, capped}
 
@@ -55,23 +51,11 @@ pub record Clear (first last at n : ℕ) : Type 0 where
   pub few : n < 65536
   pub outside : (j : ℕ) → j < n → inStretch first last (fromAddress at j) ≡ false
 
--- a command that stores one byte at the pointer, `was` being the one there, where auto is off: done as a step does it; or left
-pub record Puts (b : Bus) (was : ℕ) (still : Bool) (k : ℕ) (told : Told) : Type 0 where
-  pub quiet : told .done ≡ true → still ≡ true
-  pub acts : told .done ≡ true → isOff (b .auto) ≡ true → (p : Panel) (rom mem : List ℕ) (d : Display) → was ≡ getD mem (b .pointer) 0
-      → stepOf p rom (machine (record { display = d; bus = b }) mem) (code k) ≡ done (machine (record { display = d; bus = told .bus }) (set mem (b .pointer) (told .byte)))
-  pub counts : told .done ≡ true → (p : Panel) (d : Display) → codeStores p (record { display = d; bus = b }) (decodeOf k) ≡ 1
+-- a store noted or not, at an address
+pub record Noted (at : ℕ) (due noted : Noting) : Type 0 where
+  pub low : at < 65536
+  pub notes : noted ≡ due
 
--- a command of the bus that stores nothing, likewise
-pub record Tells (b : Bus) (was : ℕ) (still : Bool) (k : ℕ) (told : Told) : Type 0 where
-  pub quiet : told .done ≡ true → still ≡ true
-  pub acts : told .done ≡ true → isOff (b .auto) ≡ true → (p : Panel) (rom mem : List ℕ) (d : Display) → was ≡ getD mem (b .pointer) 0
-      → stepOf p rom (machine (record { display = d; bus = b }) mem) (code k) ≡ done (machine (record { display = d; bus = told .bus }) mem)
-  pub counts : told .done ≡ true → (p : Panel) (d : Display) → codeStores p (record { display = d; bus = b }) (decodeOf k) ≡ 0
-
--- a command of the display, likewise
-pub record Draws (d : Display) (still : Bool) (k : ℕ) (drawn : Drawn) : Type 0 where
-  pub quiet : drawn .done ≡ true → still ≡ true
-  pub acts : drawn .done ≡ true → (b : Bus) → isOff (b .auto) ≡ true → (p : Panel) (rom mem : List ℕ)
-      → stepOf p rom (machine (record { display = d; bus = b }) mem) (code k) ≡ done (machine (record { display = drawn .display; bus = withPending b none }) mem)
-  pub counts : drawn .done ≡ true → (p : Panel) (b : Bus) → codeStores p (record { display = d; bus = b }) (decodeOf k) ≡ 0
+-- a code whose command stores no byte or one, if n says so
+pub record Singles (k n : ℕ) : Type 0 where
+  pub counts : n < 2 → (p : Panel) (r : Registers) → codeStores p r (decodeOf k) ≡ n

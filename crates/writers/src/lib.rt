@@ -2,4 +2,3 @@
 mod block;
 pub mod list;
 mod note;
-mod quick;

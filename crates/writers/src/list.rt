@@ -13,23 +13,24 @@ use super::note::hold;
 use super::note::keep;
 use super::note::look;
 use super::note::note_all;
-use super::quick::draw;
-use super::quick::put;
-use super::quick::tell;
+use super::note::note_one;
+use super::note::single;
 use codes::command::Move;
 use codes::command::is_off;
 use controller::access::access;
 use effects::effect::is_read;
 use effects::effect::is_write;
 use effects::effect::moved;
-use effects::effect::push;
-use effects::effect::with_auto;
 use ground::bytes::lesser;
 use state::panel::Panel;
-use state::registers::Auto;
-use state::registers::Pending;
 use state::registers::Registers;
 use stores::stores::stores;
+use usual::draw::draw;
+use usual::part::datum;
+use usual::part::emptied;
+use usual::part::freed;
+use usual::part::ticked;
+use usual::tell::tell;
 
 // A number and place, the entries listed, the registers after.
 pub struct Listed {
@@ -90,9 +91,7 @@ fn follow(
         }
         let off = is_off(auto);
         if (kind == 0) & off {
-            let pending = bus.pending;
-            let pushed = push(pending, byte);
-            bus.pending = pushed;
+            bus = datum(bus, byte);
             i += 1;
             continue;
         }
@@ -100,41 +99,26 @@ fn follow(
             i += 1;
             continue;
         }
-        let quiet = (kind == 1) & off;
-        let was = look(mem, bus.pointer);
-        let placed = put(bus, quiet, byte, was);
-        if placed.done {
-            count = keep(mem, list, count, i, bus.pointer, placed.byte, first, last);
-            bus = placed.bus;
-            i += 1;
-            continue;
-        }
-        let told = tell(bus, quiet, byte, was);
+        let n = single(byte);
+        let quiet = (kind == 1) & off & (n < 2);
+        let at = bus.pointer;
+        let was = look(mem, at);
+        let told = tell(bus, mem, quiet, byte);
         if told.done {
+            count = note_one(list, count, i, at, was, mem, n, first, last);
             bus = told.bus;
             i += 1;
             continue;
         }
-        let drawn = draw(display, quiet, byte);
+        let drawn = draw(display, quiet & (n == 0), byte);
         if drawn.done {
-            let none = Pending {
-                count: 0,
-                older: 0,
-                newest: 0,
-            };
             display = drawn.display;
-            bus.pending = none;
+            bus = emptied(bus);
             i += 1;
             continue;
         }
         if (kind == 1) & (byte == 0xb2) {
-            let none = Pending {
-                count: 0,
-                older: 0,
-                newest: 0,
-            };
-            bus = with_auto(bus, Auto::Off);
-            bus.pending = none;
+            bus = freed(bus);
             i += 1;
             continue;
         }
@@ -148,13 +132,12 @@ fn follow(
             continue;
         }
         if kind == 4 {
-            display.phase = !display.phase;
+            display = ticked(display);
             i += 1;
             continue;
         }
-        let at = bus.pointer;
-        let n = stores(panel, Registers { display, bus }, kind, byte);
-        let before = hold(mem, at, n);
+        let all = stores(panel, Registers { display, bus }, kind, byte);
+        let before = hold(mem, at, all);
         let acted = access(panel, Registers { display, bus }, mem, rom, kind, byte);
         let after = acted.registers;
         let place = i;
@@ -162,7 +145,7 @@ fn follow(
         bus = after.bus;
         i += 1;
         if acted.number == 0 {
-            count = note_all(list, count, place, at, n, &before, mem, first, last);
+            count = note_all(list, count, place, at, all, &before, mem, first, last);
         }
     }
     let after = Registers { display, bus };

@@ -1,13 +1,15 @@
 // Stores entered in the list.
 ghost use mathlib.Core.Path.{_≡_};
+ghost use mathlib.Core.Bool.{cond};
 ghost use mathlib.Core.List.{[], _∷_};
 ghost use Prim.Native.Nat.{_+_, _*_, _<_, _≤_};
+ghost use lib.Dec.{eqb};
 ghost use lib.ListN.{length, getD};
 ghost use lib.Seq.{sets};
 ghost use Rattle.stores.specs.Stores.{fromAddress};
 ghost use Rattle.writers.specs.Stretch.{store, inStretch};
 ghost use Rattle.writers.specs.Listed.{capped};
-ghost use Rattle.writers.specs.Ready.{noting, notedBy, notedAll, Keeps, Held};
+ghost use Rattle.writers.specs.Ready.{noting, notedBy, notedAll, Keeps, Noted, Singles, Held};
 
 pub(crate) fn in_stretch(first: u16, last: u16, address: u16) -> bool
     ensures { λ r. ⌜ r ≡ inStretch first last address ⌝ }
@@ -101,6 +103,47 @@ pub(crate) fn keep(
     let was = mem[there];
     mem[there] = byte;
     note(list, count, pair, at, was, byte, first, last)
+}
+
+// How many bytes a command stores, by its code: none or one. 2 stands for E0H up, a copy among them.
+pub(crate) fn single(code: u8) -> usize
+    ensures { λ r. ⌜ Singles code r ⌝ }
+{
+    let high = code / 16;
+    let low = code % 16;
+    match high {
+        12 => match low {
+            0 => 1,
+            2 => 1,
+            4 => 1,
+            _ => 0,
+        },
+        14 => 2,
+        15 => 1,
+        _ => 0,
+    }
+}
+
+// The one byte that a command stored, or none: `was` is the byte there before.
+pub(crate) fn note_one(
+    list: &mut [usize],
+    count: usize,
+    pair: usize,
+    at: u16,
+    was: u8,
+    mem: &[u8],
+    n: usize,
+    first: u16,
+    last: u16,
+) -> usize
+    requires { ⌜ length (now mem) ≡ 65536 ⌝ }
+    ensures { λ r. ⌜ Noted at (cond (eqb n 1) (notedBy first last (store pair at was (getD (now (mem .entry)) at 0)) (noting count (now (list .entry)))) (noting count (now (list .entry)))) (noting r (now (list .exit))) ⌝ }
+{
+    if n == 1 {
+        let after = mem[at as usize];
+        return note(list, count, pair, at, was, after, first, last);
+    }
+    count
 }
 
 // The bytes from an address on, before a pair stores there.

@@ -1,0 +1,80 @@
+-- Which codes store one byte, and which none.
+use mathlib.Core.Path.{_≡_, refl, ap, sym, _∙_}
+use mathlib.Core.Bool.{Bool, true, false, cond, true≢false}
+use mathlib.Core.List.{List}
+use Prim.Native.Nat.{ℕ, _/_, _%_, _<_}
+use native.Mathlib.Omega.{arith}
+use lib.Dec.{ltb, eqb}
+use lib.ListN.{getD}
+use borrow.Author.Tests.{eq-eqb, ne-eqb}
+use Rattle.ground.proofs.Tests.{cond-has}
+use Rattle.codes.specs.Command.{transferOf, sightCodeOf, bitCodeOf, groupOf, decodeOf}
+use Rattle.controller.specs.Types.{Decoded, Defined, Store, Up, Down, Stay}
+use Rattle.stores.specs.Stores.{codeStores}
+use Rattle.writers.specs.Types.{Panel, Registers}
+use Rattle.writers.specs.Stretch.{store}
+use Rattle.writers.specs.Ready.{Noting, noting, notedBy, Noted, Singles}
+
+module _ (p : Panel) (r : Registers) where
+  record NoneBy (x : Decoded) : Type 0 where
+    stores : codeStores p r x ≡ 0
+
+  nothing : {x : Decoded} → codeStores p r x ≡ 0 → NoneBy x
+  nothing e = record { stores = e }
+
+  key : (t : Bool) {x y : Decoded} → NoneBy x → NoneBy y → NoneBy (cond t x y)
+  key t h k = cond-has NoneBy t h k
+
+  past : (t : Bool) (x : Decoded) {y : Decoded} → t ≡ false → NoneBy y → NoneBy (cond t x y)
+  past true x e k = absurd (true≢false e)
+  past false x e k = k
+
+  transfers-none : (low : ℕ) → (low ≡ 0 → ⊥) → (low ≡ 2 → ⊥) → (low ≡ 4 → ⊥) → NoneBy (transferOf low)
+  transfers-none low a b c =
+      past (eqb low 0) (Defined (Store Up)) (ne-eqb low 0 a)
+      (key (eqb low 1) (nothing refl)
+      (past (eqb low 2) (Defined (Store Down)) (ne-eqb low 2 b)
+      (key (eqb low 3) (nothing refl)
+      (past (eqb low 4) (Defined (Store Stay)) (ne-eqb low 4 c)
+      (key (eqb low 5) (nothing refl) (nothing refl))))))
+
+  group-none : (high low : ℕ) → (high ≡ 12 → ⊥) → (high ≡ 14 → ⊥) → (high ≡ 15 → ⊥) → NoneBy (groupOf high low)
+  group-none high low a b c =
+      key (eqb high 2) (key (eqb low 1) (nothing refl) (key (eqb low 2) (nothing refl) (key (eqb low 4) (nothing refl) (nothing refl))))
+      (key (eqb high 4) (key (eqb low 0) (nothing refl) (key (eqb low 1) (nothing refl) (key (eqb low 2) (nothing refl) (key (eqb low 3) (nothing refl) (nothing refl)))))
+      (key (eqb high 8) (key (eqb (low % 8) 0) (nothing refl) (key (eqb (low % 8) 1) (nothing refl) (key (eqb (low % 8) 3) (nothing refl) (key (eqb (low % 8) 4) (nothing refl) (nothing refl)))))
+      (key (eqb high 9) (nothing refl)
+      (key (eqb high 10) (key (ltb low 8) (nothing refl) (nothing refl))
+      (key (eqb high 11) (key (eqb low 0) (nothing refl) (key (eqb low 1) (nothing refl) (key (eqb low 2) (nothing refl) (nothing refl))))
+      (past (eqb high 12) (transferOf low) (ne-eqb high 12 a)
+      (past (eqb high 14) (sightCodeOf low) (ne-eqb high 14 b)
+      (past (eqb high 15) (bitCodeOf low) (ne-eqb high 15 c) (nothing refl)))))))))
+
+module _ {k : ℕ} where
+  -- C0H, C2H, C4H
+  pub single-transfer : k / 16 ≡ 12 → (low : ℕ) → k % 16 ≡ low → ((p : Panel) (r : Registers) → codeStores p r (transferOf low) ≡ 1) → Singles k 1
+  single-transfer h low l e =
+      record { counts = λ s p r. ap (λ (n : ℕ). codeStores p r (groupOf n (k % 16))) h ∙ ap (λ (n : ℕ). codeStores p r (transferOf n)) l ∙ e p r }
+
+  pub none-transfer : k / 16 ≡ 12 → (k % 16 ≡ 0 → ⊥) → (k % 16 ≡ 2 → ⊥) → (k % 16 ≡ 4 → ⊥) → Singles k 0
+  none-transfer h a b c =
+      record { counts = λ s p r. ap (λ (n : ℕ). codeStores p r (groupOf n (k % 16))) h ∙ transfers-none p r (k % 16) a b c .stores }
+
+  -- E0H up: not said
+  pub unsaid : Singles k 2
+  unsaid = record { counts = λ s. absurd (let y : ⊥ = omega arith in y) }
+
+  -- F0H up
+  pub single-bit : k / 16 ≡ 15 → Singles k 1
+  single-bit h = record { counts = λ s p r. ap (λ (n : ℕ). codeStores p r (groupOf n (k % 16))) h }
+
+  pub none-other : (k / 16 ≡ 12 → ⊥) → (k / 16 ≡ 14 → ⊥) → (k / 16 ≡ 15 → ⊥) → Singles k 0
+  none-other a b c = record { counts = λ s p r. group-none p r (k / 16) (k % 16) a b c .stores }
+
+-- one noted, or none
+module _ {at n : ℕ} (low : at < 65536) {x : Noting} (due count : Noting) where
+  pub one-noted : n ≡ 1 → x ≡ due → Noted at (cond (eqb n 1) due count) x
+  one-noted e f = record { low = low; notes = f ∙ sym (ap (λ (t : Bool). cond t due count) (eq-eqb n 1 e)) }
+
+  pub none-noted : (n ≡ 1 → ⊥) → x ≡ count → Noted at (cond (eqb n 1) due count) x
+  none-noted e f = record { low = low; notes = f ∙ sym (ap (λ (t : Bool). cond t due count) (ne-eqb n 1 e)) }
