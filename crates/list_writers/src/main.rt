@@ -128,7 +128,7 @@ fn put_entries(list: &[usize], count: usize, past: usize) -> bool {
     true
 }
 
-// The next part of the log, 512 pairs where it is not the last: no more than 80 entries a pair, so that they fit.
+// The next part of the log, 512 pairs where it is not the last: no more than 80 entries a pair, so that they fit in the room.
 fn list_part(
     panel: Panel,
     registers: Registers,
@@ -136,6 +136,7 @@ fn list_part(
     rom: &[u8],
     first: u16,
     last: u16,
+    room: &mut [usize],
     past: usize,
 ) -> Heard {
     let mut part = [0u8; 1024];
@@ -150,7 +151,6 @@ fn list_part(
         };
     }
     let whole = got.count / 2 * 2;
-    let mut room = [0usize; 163840];
     let listed = list(
         panel,
         registers,
@@ -159,9 +159,9 @@ fn list_part(
         &part[..whole],
         first,
         last,
-        &mut room,
+        room,
     );
-    let told = put_entries(&room, listed.count, past);
+    let told = put_entries(room, listed.count, past);
     let after = listed.registers;
     Heard {
         registers: after,
@@ -173,13 +173,20 @@ fn list_part(
 }
 
 // Part after part, from reset; the last one is shorter than the others. The turns end behind 2^42 bytes.
-fn list_all(panel: Panel, memory: &mut [u8], rom: &[u8], first: u16, last: u16) -> Heard {
+fn list_all(
+    panel: Panel,
+    memory: &mut [u8],
+    rom: &[u8],
+    first: u16,
+    last: u16,
+    room: &mut [usize],
+) -> Heard {
     let mut registers = Registers::reset();
     let mut stores: usize = 0;
     let mut bytes: usize = 0;
     let mut turns: usize = 4294967296;
     while turns > 0 {
-        let heard = list_part(panel, registers, memory, rom, first, last, bytes / 2);
+        let heard = list_part(panel, registers, memory, rom, first, last, room, bytes / 2);
         registers = heard.registers;
         stores = std::num::wrapping_add_usize(stores, heard.stores);
         bytes = std::num::wrapping_add_usize(bytes, heard.bytes);
@@ -240,7 +247,8 @@ fn main() {
     let first = word(byte_in(&head[..end], 3), byte_in(&head[..end], 4));
     let last = word(byte_in(&head[..end], 5), byte_in(&head[..end], 6));
     let mut memory = empty_memory();
-    let heard = list_all(panel, &mut memory, &rom, first, last);
+    let mut room = [0usize; 163840];
+    let heard = list_all(panel, &mut memory, &rom, first, last, &mut room);
     if heard.failed {
         return;
     }

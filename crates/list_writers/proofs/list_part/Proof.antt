@@ -24,20 +24,17 @@ array-share-prefix-part c = search needs
 slice-aggregate-list : tie.Need-slice-aggregate-list
 slice-aggregate-list c = sym (length-take-le _ _ (omega (arith, c .before .before .before .before .before .read-whole .ensures .0)))
 
-slice-aggregate-list-2 : tie.Need-slice-aggregate-list-2
-slice-aggregate-list-2 c = search needs
-
 list-requires : tie.Need-list-requires
 list-requires c κs = search needs
-
-slice-aggregate-put-entries : tie.Need-slice-aggregate-put-entries
-slice-aggregate-put-entries c = search needs
 
 put-entries-requires : tie.Need-put-entries-requires
 put-entries-requires c κs = search needs
 
 same-length : tie.Need-same-length
 same-length c = search needs
+
+same-length-2 : tie.Need-same-length-2
+same-length-2 c = search needs
 
 returns-2 : tie.Need-returns-2
 returns-2 c = search needs
@@ -52,9 +49,8 @@ list-part-spec =
     mul-whole
     array-share-prefix-part
     slice-aggregate-list
-    slice-aggregate-list-2
     list-requires
-    slice-aggregate-put-entries
     put-entries-requires
     same-length
+    same-length-2
     returns-2)
