@@ -158,6 +158,13 @@ static void make(unsigned long long seed, unsigned long *length)
     proved = second;
 }
 
+/* The last line, as the other comparisons have it: a log is one. */
+static int told(unsigned long long passed, unsigned failed)
+{
+    printf("%llu passed, %u failed\n", passed, failed);
+    return failed != 0;
+}
+
 int main(int count, char **words)
 {
     unsigned long long seed = count > 1 ? strtoull(words[1], 0, 10) : 1;
@@ -170,13 +177,13 @@ int main(int count, char **words)
         for (unsigned long i = 0; i < length; i++, pairs++) {
             if (!follow(input[3 + 2 * i], input[4 + 2 * i])) {
                 printf("seed %llu pair %lu: they differ\n", seed, i);
-                return 1;
+                return told(runs, 1);
             }
             if (below(&random, 8) == 0) {
                 refreshes++;
                 if (!refresh()) {
                     printf("seed %llu pair %lu: the frames or flags differ\n", seed, i);
-                    return 1;
+                    return told(runs, 1);
                 }
             }
         }
@@ -186,10 +193,10 @@ int main(int count, char **words)
         length = lengthen(&random, length);
         if (length && !run(length, below(&random, 8) ? RUN : below(&random, 20))) {
             printf("seed %llu: the runs differ\n", seed);
-            return 1;
+            return told(runs, 1);
         }
         runs++, ran += length;
     }
     printf("%llu pairs followed, %llu refreshes, %llu runs of %llu pairs, no difference\n", pairs, refreshes, runs, ran);
-    return 0;
+    return told(runs, 0);
 }
