@@ -167,3 +167,14 @@ told() {
         esac
     done 8>"$1"
 }
+
+# library CRATE: the library for C that the crate is, proved and made where it is not current; one at a time
+library() {
+    archive=$root/target/staticlib/lib$1.a
+    mkdir -p "$root/target/log" && exec 7>>"$root/target/library" && flock 7 || fail "'$root/target' can't be written"
+    if [ ! -f "$archive" ] || [ -n "$(find "$root/crates" "$root/crates.txt" -newer "$archive" -print | head -n 1)" ]; then
+        (cd "$root" && rt staticlib "$1") </dev/null >"$root/target/log/$1.library" 2>&1 ||
+            { tail -n 5 "$root/target/log/$1.library" >&2; fail "$archive was not proved and made"; }
+    fi
+    exec 7>&-
+}
