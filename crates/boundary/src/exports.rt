@@ -9,12 +9,12 @@ use super::door::enter;
 use super::door::keep;
 use super::door::marked;
 use super::image::encode;
-use controller::access::access;
 use controller::run::run;
 use controller::run::run_stopping;
 use display::frame::paint;
 use display::seen::layers;
 use ground::bytes::word;
+use single::access::access;
 use state::registers::Registers;
 
 // One access: the number in the low byte, the byte read in the high one.

@@ -152,3 +152,7 @@ module _ (p : Panel) (rom : List ℕ) (on : Bool) (skips : List ℕ) (listed : �
           ∙ rest b
           ∙ (λ t. runFrom (skipStep on (stepOf p rom)) (i t) (drop (length (dataOf qs)) qs) (standingOn (standing (withBus r (withPointer (r .bus) (j t))) (stored (set m (r .bus .pointer) b) ((r .bus .pointer + 1) % 65536) (dataOf qs)) a g) skips listed (h t)))
       go (suc n) b rest = none-run (record { kind = suc n; byte = b } ∷ qs) k r m a g place l (data-none (record { kind = suc n; byte = b }) qs (λ e. omega arith))
+
+-- one pair on, one less is left
+pub nearer : {i total : ℕ} → i < total → total - (i + 1) < total - i
+nearer h = omega arith

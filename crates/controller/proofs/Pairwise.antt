@@ -14,20 +14,20 @@ use Rattle.ground.proofs.Tests.{cond-has, both, both-left, both-right}
 use Rattle.ground.proofs.Stores.{stored-length}
 use Rattle.state.specs.State.{validPanel, none}
 use Rattle.codes.specs.Command.{isOff}
-use Rattle.controller.specs.Types.{Panel, Display, Auto, Off, Write, Read, Bus, Registers, Turned, Noted, Told, Drawn, Asked}
+use Rattle.controller.specs.Types.{Panel, Display, Auto, Off, Write, Read, Bus, Registers, RanOn, Turned, Noted, Told, Drawn, Asked}
 use Rattle.effects.specs.Effect.{withBus, withPointer, withAuto, withPending, withPhase, pushed, isWrite}
-use Rattle.controller.specs.Access.{Pair, Step, done, answered, refused, dataWriteOf, stepOf}
+use Rattle.controller.specs.Access.{Pair, Step, done, answered, refused, dataWriteOf, stepOf, accessOf}
 use Rattle.effects.specs.Machine.{Machine, machine}
 use Rattle.controller.specs.Run.{pairsOf, Standing, Turn, went, halted, turnOf, runFrom}
 use Rattle.controller.specs.Skip.{Skipping, passedBy, skipBy, skipStep, ranOnAll, ranOnOf}
 use Rattle.usual.specs.Ready.{Tells, Draws, Asks}
 use Rattle.usual.proofs.Tells.{leaves}
-use Rattle.controller.specs.Ready.{Runs, Blocked, pairsFrom, dataOf, standing, standingOn, TurnedAll, turnedAll, turnedOf, NotedAll, notedAll, notedOf}
+use Rattle.controller.specs.Ready.{Runs, Blocked, pairsFrom, dataOf, standing, standingOn, TurnedAll, turnedAll, turnedOf, turnedBy, NotedAll, notedAll, notedOf}
 use Rattle.controller.proofs.Blocks.{pairAt, pairs-behind, write-only, block-run}
 use Rattle.controller.proofs.Laws.{Sounds, sounds-valid, step-sound}
 use Rattle.controller.proofs.Splits.{projected}
 use Rattle.controller.proofs.Goings.{Leaves, Proper, goes, stops, Going, going, going-ends, going-halts, going-went, going-done, going-answers}
-use Rattle.controller.proofs.Turns.{Answering, answers, declines, Acting, acts, refuses, step-answering, step-acting, step-number}
+use Rattle.controller.proofs.Turns.{Answering, answers, declines, Acting, acts, refuses, step-answering, step-acting, step-number, turned-runs}
 
 answering-proper : (s : Standing Machine) {o : Step Machine} → Answering (s .machine) o → Proper (turnOf s o)
 answering-proper s answers = cond-has Proper (ltb (s .given) (length (s .answers))) goes stops
@@ -152,9 +152,11 @@ module _ {p : Panel} {on : Bool} {rom log : List ℕ} {total : ℕ} {s₀ : Stan
   Kind = SoundOn (length (s₀ .machine .skips))
 
   pub running-ends : total ≤ i
-      → ranOnAll (record { ran = record { number = 0; place = 0; taken = i; answers = s .given; registers = s .machine .registers }; skipped = listed }) (s .machine .memory) (s .answers) skips
-      ≡ ranOnOf (runFrom steps 0 (take total (pairsOf log)) s₀)
-  running-ends h = ap ranOnOf (going-ends steps Kind (skip-sound p rom on _) (g .goes-on) h)
+      → {y : RanOn} → y ≡ record { ran = record { number = 0; place = 0; taken = i; answers = s .given; registers = s .machine .registers }; skipped = listed }
+      → ranOnAll y (s .machine .memory) (s .answers) skips ≡ ranOnOf (runFrom steps 0 (take total (pairsOf log)) s₀)
+  running-ends h f =
+      ap (λ (o : RanOn). ranOnAll o (s .machine .memory) (s .answers) skips) f
+      ∙ ap ranOnOf (going-ends steps Kind (skip-sound p rom on _) (g .goes-on) h)
 
   -- every turn starts from a machine that may be acted on
   pub going-runs : (r : Registers) (mem : List ℕ) → s .machine ≡ machine r mem → validPanel p ≡ true → length rom ≡ 1024 → Runs p r mem rom
@@ -172,14 +174,14 @@ module _ {p : Panel} {on : Bool} {rom log : List ℕ} {total : ℕ} {s₀ : Stan
         → Running p on rom log total s₀ (record { machine = m; answers = set (s .answers) (s .given) b; given = s .given + 1 }) skips listed (i + 1)
     running-answers n e x r = record { goes-on = going-answers steps Kind (skip-sound p rom on _) (g .goes-on) h l n e (ap (skipBy on (standingOn s skips listed i .machine)) x) r }
 
-    module _ {t : Turned} {m a : List ℕ} {x : Noted} {b : List ℕ}
-        (e : turnedAll t m a ≡ turnedOf s (turnOf s (stepOf p rom (s .machine) (pairAt log i))))
+    module _ {t : Turned} {m a : List ℕ} {x : Noted} {b : List ℕ} (k : Runs p (s .machine .registers) (s .machine .memory) rom)
+        (e : turnedAll t m a ≡ turnedBy (eqb (getD log (2 * i) 0) 2 || eqb (getD log (2 * i) 0) 3) (accessOf p (s .machine .registers) (s .machine .memory) rom (pairAt log i)) (s .machine .registers) (s .answers) (s .given))
         (f : notedAll x b ≡ notedOf on (t .number) i skips listed) where
       comes : Outcome (standingOn s skips listed i) (turnOf (standingOn s skips listed i) (steps (standingOn s skips listed i .machine) (pairAt log i))) (turnedAll t m a) (notedAll x b)
       comes =
           let o = outcome on (standingOn s skips listed i) (stepOf p rom (s .machine) (pairAt log i)) (step-number p rom (s .machine) (getD log (2 * i) 0) (getD log (2 * i + 1) 0)) in
           subst (λ (y : NotedAll). Outcome (standingOn s skips listed i) (turnOf (standingOn s skips listed i) (steps (standingOn s skips listed i .machine) (pairAt log i))) (turnedAll t m a) y) (sym f)
-          (subst (λ (y : TurnedAll). Outcome (standingOn s skips listed i) (turnOf (standingOn s skips listed i) (steps (standingOn s skips listed i .machine) (pairAt log i))) y (notedOf on (y .turned .number) i skips listed)) (sym e) o)
+          (subst (λ (y : TurnedAll). Outcome (standingOn s skips listed i) (turnOf (standingOn s skips listed i) (steps (standingOn s skips listed i .machine) (pairAt log i))) y (notedOf on (y .turned .number) i skips listed)) (sym (e ∙ turned-runs k (s .answers) (s .given) (getD log (2 * i) 0) (getD log (2 * i + 1) 0))) o)
 
       -- a pair taken, or listed
       pub going-on : x .number ≡ 0 → Running p on rom log total s₀ (standing (t .registers) m a (t .given)) b (x .listed) (i + 1)
@@ -193,9 +195,9 @@ module _ {p : Panel} {on : Bool} {rom log : List ℕ} {total : ℕ} {s₀ : Stan
 
       -- a pair that stops the run
       pub going-stops : (x .number ≡ 0 → ⊥)
-          → ranOnAll (record { ran = record { number = x .number; place = i; taken = i; answers = t .given; registers = t .registers }; skipped = x .listed }) m a b
-          ≡ ranOnOf (runFrom steps 0 (take total (pairsOf log)) s₀)
-      going-stops z = go _ _ _ comes z refl
+          → {y : RanOn} → y ≡ record { ran = record { number = x .number; place = i; taken = i; answers = t .given; registers = t .registers }; skipped = x .listed }
+          → ranOnAll y m a b ≡ ranOnOf (runFrom steps 0 (take total (pairsOf log)) s₀)
+      going-stops z f = ap (λ (o : RanOn). ranOnAll o m a b) f ∙ go _ _ _ comes z refl
         where
           go : (o : Turn (Skipping Machine)) (y : TurnedAll) (u : NotedAll) → Outcome (standingOn s skips listed i) o y u → (u .noted .number ≡ 0 → ⊥)
               → turnOf (standingOn s skips listed i) (steps (standingOn s skips listed i .machine) (pairAt log i)) ≡ o

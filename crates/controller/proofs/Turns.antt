@@ -12,10 +12,11 @@ use Rattle.ground.proofs.Tests.{cond-has, either}
 use Rattle.codes.specs.Command.{neededOf, isOff, endsAuto, decodeOf}
 use Rattle.controller.specs.Types.{Panel, Registers, Auto, Off, Write, Read, Command, Decoded, Defined, Undefined, Acted, Turned}
 use Rattle.effects.specs.Effect.{statusOf}
-use Rattle.controller.specs.Access.{Step, done, answered, refused, obeyOf, commandOf, dataWriteOf, dataReadOf, tickOf, stepOf, replied, actedOf}
+use Rattle.controller.specs.Access.{Step, done, answered, refused, obeyOf, commandOf, dataWriteOf, dataReadOf, tickOf, stepOf, replied, actedOf, accessOf}
 use Rattle.effects.specs.Machine.{Machine, machine}
 use Rattle.controller.specs.Run.{went, halted, turnOf}
-use Rattle.controller.specs.Ready.{standing, turnedAll, turnedOf, takenOf, AnsweredAll, answeredAll, answeredOf}
+use Rattle.controller.specs.Ready.{Runs, standing, turnedAll, turnedOf, takenOf, AnsweredAll, answeredAll, answeredOf, turnedBy}
+use Rattle.controller.proofs.Readied.{access-runs}
 
 -- from s a step that answers and leaves memory, or is refused by a number from 3 to 7
 pub data Answering (s : Machine) : Step Machine → Type 0 where
@@ -131,3 +132,19 @@ module _ (r : Registers) (m answers₀ : List ℕ) (given : ℕ) {a : Acted} {m�
     where
       go : Bool → AnsweredAll
       go u = cond u (answeredAll (record { number = 0; registers = r; given = given + 1 }) (set answers₀ given 0)) (answeredAll (record { number = 13; registers = r; given = given }) answers₀)
+
+-- inside a run a turn is its step's
+pub turned-runs : {p : Panel} {r : Registers} {mem rom : List ℕ} → Runs p r mem rom → (answers₀ : List ℕ) (given k b : ℕ)
+    → turnedBy (eqb k 2 || eqb k 3) (accessOf p r mem rom (record { kind = k; byte = b })) r answers₀ given
+    ≡ turnedOf (standing r mem answers₀ given) (turnOf (standing r mem answers₀ given) (stepOf p rom (machine r mem) (record { kind = k; byte = b })))
+turned-runs {p} {r} {mem} {rom} runs answers₀ given k b = go (eqb k 2 || eqb k 3) refl
+  where
+    go : (t : Bool) → (eqb k 2 || eqb k 3) ≡ t
+        → turnedBy t (accessOf p r mem rom (record { kind = k; byte = b })) r answers₀ given
+        ≡ turnedOf (standing r mem answers₀ given) (turnOf (standing r mem answers₀ given) (stepOf p rom (machine r mem) (record { kind = k; byte = b })))
+    go true h =
+        turn-answered r mem answers₀ given (stepOf p rom (machine r mem) (record { kind = k; byte = b }))
+        (step-answering p rom (machine r mem) k b h) (access-runs runs (record { kind = k; byte = b })) refl
+    go false h =
+        turn-taken r mem answers₀ given (stepOf p rom (machine r mem) (record { kind = k; byte = b }))
+        (step-acting p rom (machine r mem) k b h) (access-runs runs (record { kind = k; byte = b })) refl

@@ -23,8 +23,8 @@ pub use Rattle.sight.specs.declared.position.Position.the-variants.{At, Nowhere
 pub use Rattle.single.specs.declared.access.Acted.{Acted}
 pub use Rattle.controller.specs.declared.run.Ran.{Ran}
 pub use Rattle.controller.specs.declared.run.RanOn.{RanOn}
-pub use Rattle.controller.specs.declared.run.Noted.{Noted}
-pub use Rattle.controller.specs.declared.run.Turned.{Turned}
+pub use Rattle.turns.specs.declared.note.Noted.{Noted}
+pub use Rattle.turns.specs.declared.turn.Turned.{Turned}
 pub use Rattle.usual.specs.declared.tell.Told.{Told}
 pub use Rattle.usual.specs.declared.draw.Drawn.{Drawn}
 pub use Rattle.usual.specs.declared.ask.Asked.{Asked}

@@ -1,3 +1,2 @@
-// The controller acting on bus pairs: one access, and the run of a log.
-pub mod access;
+// The run of a log.
 pub mod run;

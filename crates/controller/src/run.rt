@@ -3,19 +3,18 @@ ghost use mathlib.Core.Path.{_≡_};
 ghost use Rattle.effects.specs.Effect.{withPointer};
 ghost use Prim.Native.Nat.{_+_, _*_, _%_, _≤_};
 ghost use lib.ListN.{length, take};
-ghost use Rattle.effects.specs.Machine.{machine};
 ghost use Rattle.controller.specs.Access.{stepOf};
-ghost use Rattle.controller.specs.Run.{turnOf, runFrom, ranAll, stoppingOf, pairsOf};
+ghost use Rattle.controller.specs.Run.{runFrom, ranAll, stoppingOf, pairsOf};
 ghost use Rattle.controller.specs.Skip.{skipStep, begunOn, ranOnAll, ranOnOf, eitherRun, runOf};
-ghost use Rattle.controller.specs.Ready.{Runs, Blocked, standing, turnedAll, turnedOf, takenOf, answeredAll, answeredOf, notedAll, notedOf};
+ghost use Rattle.controller.specs.Ready.{Runs, Blocked};
 use codes::command::is_off;
 use effects::effect::is_write;
 use ground::bytes::lesser;
-use single::access::Acted;
-use single::access::access;
 use state::panel::Panel;
 use state::registers::Bus;
 use state::registers::Registers;
+use turns::note::note;
+use turns::turn::turn;
 use usual::ask::ask;
 use usual::draw::draw;
 use usual::part::datum;
@@ -33,92 +32,10 @@ pub struct Ran {
     pub registers: Registers,
 }
 
-// One pair of a run: the registers after, the answers so far, a number. The registers come first: a copy then begins where they were stored.
-pub(crate) struct Turned {
-    pub registers: Registers,
-    pub given: usize,
-    pub number: u8,
-}
-
 // A run that goes on after a refusal: what a run answers, and the pairs listed.
 pub struct RanOn {
     pub ran: Ran,
     pub skipped: usize,
-}
-
-// What a pair's number comes to: 0 where the run goes on, else the number it stops by; the pairs listed so far.
-pub struct Noted {
-    pub listed: usize,
-    pub number: u8,
-}
-
-// A pair that is not taken.
-fn halted(number: u8, registers: Registers, given: usize) -> Turned
-    ensures { λ r. ⌜ r ≡ record { number = number; registers = registers; given = given } ⌝ }
-{
-    Turned {
-        number,
-        registers,
-        given,
-    }
-}
-
-// What an access that never answers comes to: taken, or all as it was.
-fn taken(acted: Acted, registers: Registers, given: usize) -> Turned
-    ensures { λ r. ⌜ r ≡ takenOf acted registers given ⌝ }
-{
-    let number = acted.number;
-    if number == 0 {
-        let after = acted.registers;
-        return Turned {
-            number: 0,
-            registers: after,
-            given,
-        };
-    }
-    halted(number, registers, given)
-}
-
-// What a read comes to: its answer in the buffer, or all as it was; 13 where there is no room.
-fn answered(acted: Acted, registers: Registers, answers: &mut [u8], given: usize) -> Turned
-    ensures { λ r. ⌜ answeredAll r (now (answers .exit)) ≡ answeredOf acted registers (now (answers .entry)) given ⌝ }
-{
-    let number = acted.number;
-    if number == 0 {
-        let after = acted.registers;
-        if given < answers.len() {
-            answers[given] = acted.answer;
-            return Turned {
-                number: 0,
-                registers: after,
-                given: given + 1,
-            };
-        }
-        return halted(13, registers, given);
-    }
-    halted(number, registers, given)
-}
-
-// One pair, as a step does it; what a read gives goes into the buffer.
-fn turn(
-    panel: Panel,
-    registers: Registers,
-    mem: &mut [u8],
-    rom: &[u8],
-    answers: &mut [u8],
-    given: usize,
-    kind: u8,
-    byte: u8,
-) -> Turned
-    requires { ⌜ Runs panel registers (now mem) (now rom) ⌝ }
-    ensures { λ r. ⌜ turnedAll r (now (mem .exit)) (now (answers .exit)) ≡ turnedOf (standing registers (now (mem .entry)) (now (answers .entry)) given) (turnOf (standing registers (now (mem .entry)) (now (answers .entry)) given) (stepOf panel (now (rom .entry)) (machine registers (now (mem .entry))) (record { kind = kind; byte = byte }))) ⌝ }
-{
-    let acted = access(panel, registers, mem, rom, kind, byte);
-    if (kind == 2) | (kind == 3) {
-        answered(acted, registers, answers, given)
-    } else {
-        taken(acted, registers, given)
-    }
 }
 
 // The data from a place on, as they follow one another, stored from an address on: the place of the first pair behind them.
@@ -157,22 +74,27 @@ fn passed(bus: Bus, count: usize) -> Bus
     }
 }
 
-// A pair behind its turn: where the run is skipping, number and place of a refused one go into the list, 16 where that is full. 13 stops either run.
-pub fn note(skipping: bool, number: u8, place: usize, skips: &mut [usize], listed: usize) -> Noted
-    ensures { λ r. ⌜ notedAll r (now (skips .exit)) ≡ notedOf skipping number place (now (skips .entry)) listed ⌝ }
+// What a run answers, part by part.
+fn ended(
+    number: u8,
+    place: usize,
+    taken: usize,
+    answers: usize,
+    registers: Registers,
+    skipped: usize,
+) -> RanOn
+    ensures { λ r. ⌜ r ≡ record { ran = record { number = number; place = place; taken = taken; answers = answers; registers = registers }; skipped = skipped } ⌝ }
 {
-    if skipping & (number != 0) & (number != 13) {
-        if listed < skips.len() / 2 {
-            skips[2 * listed] = number as usize;
-            skips[2 * listed + 1] = place;
-            return Noted {
-                listed: listed + 1,
-                number: 0,
-            };
-        }
-        return Noted { listed, number: 16 };
+    RanOn {
+        ran: Ran {
+            number,
+            place,
+            taken,
+            answers,
+            registers,
+        },
+        skipped,
     }
-    Noted { listed, number }
 }
 
 // The first `total` pairs of a log, on a machine that is known to be valid; one loop for the run that stops and the one that skips.
@@ -253,53 +175,18 @@ fn pairs(
             kind,
             byte,
         );
-        let after = turned.registers;
-        display = after.display;
-        bus = after.bus;
+        display = turned.registers.display;
+        bus = turned.registers.bus;
         given = turned.given;
         let noted = note(skipping, turned.number, i, skips, listed);
         let number = noted.number;
         listed = noted.listed;
         if number != 0 {
-            return RanOn {
-                ran: Ran {
-                    number,
-                    place: i,
-                    taken: i,
-                    answers: given,
-                    registers: Registers { display, bus },
-                },
-                skipped: listed,
-            };
+            return ended(number, i, i, given, Registers { display, bus }, listed);
         }
         i += 1;
     }
-    RanOn {
-        ran: Ran {
-            number: 0,
-            place: 0,
-            taken: i,
-            answers: given,
-            registers: Registers { display, bus },
-        },
-        skipped: listed,
-    }
-}
-
-// No pair taken.
-fn none_taken(number: u8, place: usize, registers: Registers) -> RanOn
-    ensures { λ r. ⌜ r ≡ record { ran = record { number = number; place = place; taken = 0; answers = 0; registers = registers }; skipped = 0 } ⌝ }
-{
-    RanOn {
-        ran: Ran {
-            number,
-            place,
-            taken: 0,
-            answers: 0,
-            registers,
-        },
-        skipped: 0,
-    }
+    ended(0, 0, i, given, Registers { display, bus }, listed)
 }
 
 // At most `limit` pairs of a log: the tests at the door, then pair after pair.
@@ -317,32 +204,29 @@ fn enter(
     ensures { λ r. ⌜ ranOnAll r (now (mem .exit)) (now (answers .exit)) (now (skips .exit)) ≡ eitherRun skipping panel registers (now (mem .entry)) (now (rom .entry)) (now (log .entry)) limit (now (answers .entry)) (now (skips .entry)) ⌝ }
 {
     let valid = panel.valid() & registers.valid();
-    if valid {
-        let fits = (mem.len() == 65536) & (rom.len() == 1024);
-        if fits {
-            let whole = log.len() / 2;
-            if log.len() % 2 == 0 {
-                let total = lesser(limit, whole);
-                pairs(
-                    panel,
-                    registers,
-                    mem,
-                    rom,
-                    log,
-                    total,
-                    answers,
-                    skips,
-                    skipping,
-                )
-            } else {
-                none_taken(8, whole, registers)
-            }
-        } else {
-            none_taken(2, 0, registers)
-        }
-    } else {
-        none_taken(1, 0, registers)
+    if !valid {
+        return ended(1, 0, 0, 0, registers, 0);
     }
+    let fits = (mem.len() == 65536) & (rom.len() == 1024);
+    if !fits {
+        return ended(2, 0, 0, 0, registers, 0);
+    }
+    let whole = log.len() / 2;
+    if log.len() % 2 != 0 {
+        return ended(8, whole, 0, 0, registers, 0);
+    }
+    let total = lesser(limit, whole);
+    pairs(
+        panel,
+        registers,
+        mem,
+        rom,
+        log,
+        total,
+        answers,
+        skips,
+        skipping,
+    )
 }
 
 // The ordinary run: it lists the pairs that are refused and goes on behind them.

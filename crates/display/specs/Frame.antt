@@ -4,9 +4,10 @@ use mathlib.Core.List.{List}
 use mathlib.Core.Bool.{Bool, cond, _&&_}
 use lib.Dec.{eqb}
 use lib.ListN.{length}
-use Rattle.ground.specs.Packing.{rowBytes, dotAt, rowFrom, frameFrom}
+use Rattle.ground.specs.Packing.{dotAt, rowFrom, frameFrom}
 use Rattle.display.specs.Types.{Panel, Display, Registers, Reply}
 use Rattle.state.specs.State.{validPanel, validRegisters}
+pub use Rattle.state.specs.Sizes.{frameFits}
 use Rattle.display.specs.Displayed.{cellByte}
 
 -- dot x of dot row r
@@ -24,10 +25,6 @@ frameOf p d mem rom = frameFrom (p .columns) (p .lines) (p .width) (cellByte p d
 -- lent: memory of exactly 65,536 bytes, character ROM of exactly 1,024
 abbrev pub lentLengths : List ℕ → List ℕ → Bool
 lentLengths mem rom = eqb (length mem) 65536 && eqb (length rom) 1024
-
--- a frame buffer of exactly 8·L·R
-abbrev pub frameFits : Panel → List ℕ → Bool
-frameFits p frame = eqb (length frame) (8 * p .lines * rowBytes (p .columns) (p .width))
 
 -- a number with place 0
 abbrev pub replyOf : ℕ → Reply

@@ -6,7 +6,7 @@ ghost use Rattle.flags.specs.Flags.{allSet, withFlags, flagStep};
 ghost use Rattle.flags.specs.Follow.{followed, followedOf, followOf};
 ghost use Rattle.flags.specs.Ready.{Following};
 use crate::same::same;
-use controller::access::Acted;
+use single::access::Acted;
 use state::panel::Panel;
 use state::registers::Registers;
 use stores::stores::stores;
@@ -34,7 +34,7 @@ pub(crate) fn follow(
     requires { ⌜ Following panel registers (now mem) (now rom) (now flags) ⌝ }
     ensures { λ r. ⌜ followed r (now (mem .exit)) (now (flags .exit)) ≡ followedOf registers (now (mem .entry)) (now (flags .entry)) (flagStep panel (now (rom .entry)) (withFlags (machine registers (now (mem .entry))) (now (flags .entry))) (record { kind = kind; byte = byte })) ⌝ }
 {
-    let acted = controller::access::access(panel, registers, mem, rom, kind, byte);
+    let acted = single::access::access(panel, registers, mem, rom, kind, byte);
     let number = acted.number;
     if number == 0 {
         let before = registers.display;

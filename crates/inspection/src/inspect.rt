@@ -13,7 +13,7 @@ use super::look::compare_answer;
 use super::look::look;
 use super::look::nothing_seen;
 use contents::bytes::byte_at;
-use controller::access::access;
+use single::access::access;
 use state::panel::Panel;
 use state::registers::Registers;
 

@@ -1,7 +1,5 @@
 // The list program: a character ROM, a panel and a log of any length from standard input; to standard output a line for each pair: its place,
 // kind, byte and refusal number, and what it was in words.
-use controller::access::Acted;
-use controller::access::access;
 use ground::bytes::lesser;
 use libc::STDIN_FILENO;
 use libc::STDOUT_FILENO;
@@ -11,6 +9,8 @@ use printed::input::panel_in;
 use report::read_exact;
 use report::read_whole;
 use report::report;
+use single::access::Acted;
+use single::access::access;
 use state::panel::Panel;
 use state::registers::Registers;
 use words::put::put_byte;

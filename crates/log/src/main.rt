@@ -1,7 +1,9 @@
 // The log program: a panel and a log from standard input, what the controller makes of them to standard output.
+mod print;
+
+use crate::print::print;
 use libc::STDIN_FILENO;
 use libc::STDOUT_FILENO;
-use printed::print::print;
 use report::read_whole;
 use report::report;
 

@@ -3,11 +3,11 @@ use mathlib.Core.Path.{_≡_}
 use mathlib.Core.Bool.{_&&_}
 use mathlib.Core.List.{List}
 use Prim.Native.Nat.{ℕ, _/_, _≤_}
-use lib.Dec.{leb, eqb}
+use lib.Dec.{leb}
 use lib.ListN.{length}
 use Rattle.state.specs.State.{validPanel}
-use Rattle.display.specs.Frame.{frameFits}
-use Rattle.controller.specs.Types.{Panel}
+use Rattle.state.specs.Sizes.{frameFits}
+use Rattle.state.specs.declared.panel.Panel.{Panel}
 use Rattle.printed.specs.Text.{hexLines}
 use Rattle.printed.specs.Printed.{refusalLine, firstLine, frameLines, printed}
 use Rattle.printed.specs.Parts.{printLineOf, printRefusalOf, printAnswersOf, printRowsOf}
@@ -29,4 +29,4 @@ answers-within given answers out h =
 pub rows-within : (p : Panel) (frame out : List ℕ) {w : ℕ} {b : List ℕ} → printed w b ≡ printRowsOf p frame out → w ≤ length b
 unfolding printRowsOf
 rows-within p frame out h =
-    printed-within (validPanel p && frameFits p frame && eqb (length out) 196608) (frameLines p frame) out h
+    printed-within (validPanel p && frameFits p frame && leb 164096 (length out)) (frameLines p frame) out h

@@ -1,69 +1,20 @@
--- What the input gives, what a run's text rests on, and the whole text.
-use mathlib.Core.Path.{_≡_, refl, ap, sym, subst, _∙_}
-use mathlib.Core.Bool.{Bool, true, false, cond, _&&_, _||_}
-use mathlib.Core.List.{List, [], _++_}
-use mathlib.Core.Logic.{⊎-elim}
-use Prim.Native.Nat.{ℕ, _+_, _-_, _*_, _/_, _%_, _≤_, _<_, min}
+-- What the input gives, and how long a text's parts are.
+use mathlib.Core.Path.{_≡_, refl, ap, sym, _∙_}
+use mathlib.Core.List.{List, []}
+use Prim.Native.Nat.{ℕ, _+_, _-_, _*_, _≤_, _<_, min}
 use native.Mathlib.Nat.{mul-le-mul}
 use native.Mathlib.Decide.{decLt}
 use native.Mathlib.Omega.{arith}
-use lib.Dec.{eqb}
-use lib.ListN.{length, take, drop, replicate, length-drop, length-replicate, drop-of-length-le, List·getD-eq-default}
-use lib.Seq.{take-all, take-nil}
-use borrow.Author.Tests.{eq-eqb, ne-eqb, eqb-false}
+use lib.ListN.{length, take, drop, replicate, length-drop, length-replicate, drop-of-length-le}
+use lib.Seq.{take-all}
 use Rattle.ground.specs.Lists.{build, zeros}
 use Rattle.ground.specs.Packing.{rowBytes}
 use Rattle.ground.proofs.Lists.{build-length, joined-length}
-use Rattle.ground.proofs.Tests.{both, both-left}
-use Rattle.state.specs.State.{validPanel, validRegisters, resetRegisters}
-use Rattle.display.specs.Frame.{frameOf, lentLengths, painted, Painted, paintOf, replyOf}
-use Rattle.state.proofs.Valid.{Panelled, panelled, narrow}
-use Rattle.controller.specs.Types.{Panel, Registers}
-use Rattle.controller.specs.declared.run.Ran.{Ran}
-use Rattle.controller.specs.Access.{stepOf}
-use Rattle.controller.specs.Run.{pairsOf, runFrom, RanAll, ranAll, ranOf, ranNone, stoppingOf}
-use Rattle.controller.specs.Ready.{standing}
-use Rattle.controller.proofs.Laws.{Sounds, sounds, sounds-valid}
-use Rattle.controller.proofs.Goings.{Kept}
-use Rattle.controller.proofs.Splitting.{running-kept}
-use Rattle.printed.specs.declared.told.Told.{Told}
-use Rattle.printed.specs.Put.{TextPut}
-use Rattle.printed.specs.Printed.{panelIn, logIn, characterRow, characters, ranIn, textOf, logText, ranLine, frameLine, frameLines, Reported, reported, printOf}
+use Rattle.state.specs.declared.panel.Panel.{Panel}
+use Rattle.state.proofs.Valid.{Panelled, narrow}
+use Rattle.printed.specs.Printed.{characterRow, characters, frameLine, frameLines}
 use Rattle.printed.specs.Text.{hexLineAt, hexLines}
-use Rattle.printed.specs.Ready.{FrameReady, TextReady}
-use Rattle.printed.proofs.Puts.{put-same, put-both, dot-line-length}
-use Rattle.printed.proofs.Texts.{printed-none, printed-all, printed-within, reported-settled}
-
--- the log, cut out between two places of the input
-pub log-is : (l : List ℕ) {s e : ℕ} → s ≡ min 3 (length l) → e ≡ min 16387 (length l) → take (e - s) (drop s l) ≡ logIn l
-log-is l {s} {e} i j = go (decLt (length l) 3) (decLt (length l) 16387)
-  where
-    go : Dec (length l < 3) → Dec (length l < 16387) → take (e - s) (drop s l) ≡ logIn l
-    go (yes h) k =
-        let a : drop s l ≡ [] = drop-of-length-le l {i = s} (omega arith) in
-        let b : drop 3 l ≡ [] = drop-of-length-le l {i = 3} (omega arith) in
-        ap (take (e - s)) a ∙ take-nil (e - s) ∙ sym (ap (take 16384) b)
-    go (no h) (yes k) =
-        let a : s ≡ 3 = omega arith in
-        ap (λ (n : ℕ). take (e - n) (drop n l)) a ∙ take-all (e - 3) (drop 3 l) (rw length-drop (omega arith))
-        ∙ sym (take-all 16384 (drop 3 l) (rw length-drop (omega arith)))
-    go (no h) (no k) =
-        let a : s ≡ 3 = omega arith in
-        let b : e ≡ 16387 = omega arith in
-        λ q. take (b q - a q) (drop (a q) l)
-
--- a valid panel's bytes are all there
-pub panel-whole : (input : List ℕ) {p : Panel} → p ≡ panelIn false input → validPanel p ≡ true → 3 ≤ length input
-panel-whole input {p} i v = go (decLt (length input) 3)
-  where
-    wide : 6 ≤ p .width
-    wide = ⊎-elim (λ e. omega arith) (λ e. omega arith) (panelled p v .width)
-
-    go : Dec (length input < 3) → 3 ≤ length input
-    go (yes h) =
-        let e : p .width ≡ 0 = ap (λ (q : Panel). q .width) i ∙ List·getD-eq-default input 0 (omega arith) in
-        absurd (omega (arith, wide))
-    go (no h) = omega arith
+use Rattle.printed.proofs.Puts.{dot-line-length}
 
 -- the input from a place on
 pub rest-is : (l : List ℕ) (head : ℕ) {s : ℕ} → s ≡ min head (length l) → take (length l - s) (drop s l) ≡ drop head l
@@ -81,52 +32,6 @@ module _ (p : Panel) (q : Panelled p) where
   pub lines-few : 8 * p .lines * (p .columns * p .width + 1) ≤ 164096
   lines-few = mul-le-mul {n₂ = 256} {m₂ = 641} (omega (arith, q .lines)) (omega (arith, dots-few))
 
--- past the doors a painting is the frame
-pub drawn : {p : Panel} {r : Registers} {mem rom frame out : List ℕ} {at : ℕ} → FrameReady p r mem rom frame out at
-    → {x : Painted} → x ≡ paintOf p r mem rom frame → x .frame ≡ frameOf p (r .display) mem rom
-unfolding paintOf
-drawn {p} {r} {mem} {rom} {frame} d h =
-    ap (λ (o : Painted). o .frame) h
-    ∙ (λ k. cond (d .valid k)
-    (cond (both (d .lent) (eq-eqb (length frame) (8 * p .lines * rowBytes (p .columns) (p .width)) (d .sized)) k) (painted (replyOf 0) (frameOf p (r .display) mem rom)) (painted (replyOf 2) frame))
-    (painted (replyOf 1) frame) .frame)
-
--- what a run from a sound state came to
-pub record Came (p : Panel) (e : RanAll) : Type 0 where
-  pub given : e .ran .answers ≤ length (e .answers)
-  pub valid : eqb (e .ran .number) 1 ≡ false → (validPanel p && validRegisters (e .ran .registers)) ≡ true
-
-module _ (p : Panel) (r : Registers) (mem rom log : List ℕ) (limit : ℕ) (answers : List ℕ) (v : validRegisters r ≡ true) (long : length mem ≡ 65536) where
-  kept : Kept Sounds (runFrom (stepOf p rom) 0 (take limit (pairsOf log)) (standing r mem answers 0))
-  kept = running-kept p rom (take limit (pairsOf log)) 0 (standing r mem answers 0) (sounds r mem v long) (omega arith)
-
-  pub run-came : Came p (stoppingOf p r mem rom log limit answers)
-  unfolding stoppingOf
-  run-came = go (validPanel p && validRegisters r) (lentLengths mem rom) (eqb (length log % 2) 0) refl
-    where
-      go : (a b c : Bool) → (validPanel p && validRegisters r) ≡ a
-          → Came p (cond a (cond b (cond c (ranOf (runFrom (stepOf p rom) 0 (take limit (pairsOf log)) (standing r mem answers 0))) (ranNone 8 (length log / 2) r mem answers)) (ranNone 2 0 r mem answers)) (ranNone 1 0 r mem answers))
-      go true true true i =
-          record { given = kept .within; valid = λ _. both (both-left (validPanel p) (validRegisters r) i) (sounds-valid (kept .sound)) }
-      go true true false i = record { given = omega arith; valid = λ _. i }
-      go true false c i = record { given = omega arith; valid = λ _. i }
-      go false b c i = record { given = omega arith; valid = λ h. absurd (eqb-false 1 1 h refl) }
-
--- a run's text, with and without answers and frame
-module _ (p : Panel) (rom : List ℕ) (e : RanAll) {a b : List ℕ} {w : ℕ} where
-  pub text-short : (eqb (e .ran .number) 1 || eqb (e .ran .number) 8) ≡ true → TextPut a 0 (ranLine (e .ran)) b w → TextPut a 0 (textOf p rom e) b w
-  unfolding textOf
-  text-short h x =
-      put-same (λ k. cond (sym h k) (ranLine (e .ran)) (ranLine (e .ran) ++ hexLines (e .ran .answers) (e .answers) ++ frameLines p (frameOf p (e .ran .registers .display) (e .memory) rom))) x
-
-  pub text-long : (eqb (e .ran .number) 1 || eqb (e .ran .number) 8) ≡ false
-      → {c d : List ℕ} {j k : ℕ} → TextPut a 0 (ranLine (e .ran)) c j → TextPut c j (hexLines (e .ran .answers) (e .answers)) d k
-      → TextPut d k (frameLines p (frameOf p (e .ran .registers .display) (e .memory) rom)) b w → TextPut a 0 (textOf p rom e) b w
-  unfolding textOf
-  text-long h x y z =
-      put-same (λ k. cond (sym h k) (ranLine (e .ran)) (ranLine (e .ran) ++ hexLines (e .ran .answers) (e .answers) ++ frameLines p (frameOf p (e .ran .registers .display) (e .memory) rom)))
-      (put-both (put-both x y) z)
-
 -- how long the parts are
 pub hex-lines-length : (given : ℕ) (bytes : List ℕ) → length (hexLines given bytes) ≡ given * 3
 unfolding hexLines
@@ -137,20 +42,9 @@ unfolding frameLines
 frame-lines-length p frame =
     joined-length (8 * p .lines) (p .columns * p .width + 1) (frameLine p frame) (λ r. dot-line-length frame (r * rowBytes (p .columns) (p .width)) (p .columns * p .width))
 
--- the run of the input's log
-pub ran-is : (input : List ℕ) {p : Panel} {r : Registers} {mem rom log answers : List ℕ} {e : RanAll} → p ≡ panelIn false input → r ≡ resetRegisters → mem ≡ zeros 65536
-    → rom ≡ characters → log ≡ logIn input → answers ≡ zeros 8192 → e ≡ stoppingOf p r mem rom log (length log / 2) answers → e ≡ ranIn input
-unfolding ranIn
-ran-is input i j m c l a e = e ∙ (λ k. stoppingOf (i k) (j k) (m k) (c k) (l k) (length (l k) / 2) (a k))
-
 pub zeros-length : (n : ℕ) → length (zeros n) ≡ n
 unfolding zeros
 zeros-length n = length-replicate n 0
-
-pub ran-came : (input : List ℕ) → Came (panelIn false input) (ranIn input)
-unfolding ranIn
-ran-came input =
-    run-came (panelIn false input) resetRegisters (zeros 65536) characters (logIn input) (length (logIn input) / 2) (zeros 8192) refl (zeros-length 65536)
 
 pub zeros-are : (n : ℕ) → replicate n 0 ≡ zeros n
 unfolding zeros
@@ -162,62 +56,3 @@ characters-are h e = h ∙ ap (λ (m : ℕ). build m characterRow) e
 
 pub characters-whole : {rom : List ℕ} → rom ≡ build 1024 characterRow → (rom ≡ characters) × (1024 ≡ length rom)
 characters-whole h = (characters-are h refl, sym (ap length h ∙ build-length 1024 characterRow))
-
--- the rooms that a run has left
-pub record Rooms (mem rom answers frame out : List ℕ) : Type 0 where
-  pub memory : length mem ≡ 65536
-  pub characters : length rom ≡ 1024
-  pub answered : length answers ≡ 8192
-  pub framed : length frame ≡ 20480
-  pub roomy : length out ≡ 196608
-
--- the run's text may be written
-pub ready : (input : List ℕ) {p : Panel} {a : Ran} {mem rom answers frame out : List ℕ} → p ≡ panelIn false input → ranAll a mem answers ≡ ranIn input
-    → Rooms mem rom answers frame out → TextReady p a mem rom answers frame out
-ready input {p} {a} {mem} {rom} {answers} i e l =
-    let came : Came p (ranAll a mem answers) = subst (λ (q : Panel). Came q (ranAll a mem answers)) (sym i) (subst (λ (o : RanAll). Came (panelIn false input) o) (sym e) (ran-came input)) in
-    record {
-      valid = came .valid;
-      lent = both (eq-eqb (length mem) 65536 (l .memory)) (eq-eqb (length rom) 1024 (l .characters));
-      given = came .given;
-      answered = l .answered;
-      framed = l .framed;
-      roomy = l .roomy;
-    }
-
-module _ (input out : List ℕ) where
-  pub print-none : (length out ≡ 196608 → ⊥) → reported (record { count = 0; number = 2 }) out ≡ printOf input out
-  unfolding printOf
-  print-none h =
-      let e = ne-eqb (length out) 196608 h in
-      λ k. record { text = printed-none (eqb (length out) 196608) (logText input) out e k; number = cond (sym e k) (ranIn input .ran .number) 2 }
-
-  pub print-all : length out ≡ 196608 → {p : Panel} {c : List ℕ} {e : RanAll} → p ≡ panelIn false input → c ≡ characters → e ≡ ranIn input
-      → {b : List ℕ} {w : ℕ} → TextPut out 0 (textOf p c e) b w → w ≤ 196608 → reported (record { count = w; number = e .ran .number }) b ≡ printOf input out
-  unfolding printOf logText
-  print-all h i j l x s =
-      let r = eq-eqb (length out) 196608 h in
-      let t = printed-all (eqb (length out) 196608) (logText input) out r (put-same (λ k. textOf (i k) (j k) (l k)) x) (omega arith) in
-      let n = ap (λ (o : RanAll). o .ran .number) l ∙ (λ k. cond (sym r k) (ranIn input .ran .number) 2) in
-      λ k. record { text = t k; number = n k }
-
-  -- the text stands in its room
-  pub print-within : {t : Told} {b : List ℕ} → reported t b ≡ printOf input out → t .count ≤ length b
-  unfolding printOf
-  print-within h = printed-within (eqb (length out) 196608) (logText input) out (ap (λ (o : Reported). o .text) h)
-
--- not refused by 1
-pub not-first : (a b : Bool) → (a || b) ≡ false → a ≡ false
-not-first true b e = e
-not-first false b e = refl
-
-module _ (p : Panel) (a : Ran) {mem rom answers frame out : List ℕ} (k : TextReady p a mem rom answers frame out) (h : (eqb (a .number) 1 || eqb (a .number) 8) ≡ false) where
-  pub ready-valid : (validPanel p && validRegisters (a .registers)) ≡ true
-  ready-valid = k .valid (not-first (eqb (a .number) 1) (eqb (a .number) 8) h)
-
-  pub ready-panel : Panelled p
-  ready-panel = panelled p (both-left (validPanel p) (validRegisters (a .registers)) ready-valid)
-
--- two replies that meet the promise are equal
-pub print-settled : {n k : Told} {b c : List ℕ} (input out : List ℕ) → reported n b ≡ printOf input out → reported k c ≡ printOf input out → (n ≡ k) × (b ≡ c)
-print-settled input out h k = reported-settled h k

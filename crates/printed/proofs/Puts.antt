@@ -1,12 +1,12 @@
 -- The laws of text written into a room, and what a loop that writes piece after piece keeps.
 use mathlib.Core.Path.{_≡_, refl, ap, ap₂, sym, subst, _∙_}
-use mathlib.Core.List.{List, [], _∷_, _++_}
+use mathlib.Core.List.{List, [], _∷_, _++_, append-assoc}
 use Prim.Native.Nat.{ℕ, suc, _+_, _*_, _≤_, _<_}
 use native.Mathlib.Nat.{add-suc, suc-add, add-zero, suc-mul, mul-le-mul-right}
 use native.Mathlib.Numerals.{add-one}
 use native.Mathlib.Omega.{arith}
-use lib.ListN.{length, getD, take, drop, set, length-append}
-use lib.Seq.{sets, length-sets, sets-eq, take-suc}
+use lib.ListN.{length, getD, take, drop, set, length-append, length-drop, take-append-drop}
+use lib.Seq.{sets, length-sets, sets-eq, take-suc, drop-drop, drop-append-le, length-take-le}
 use Rattle.ground.proofs.Lists.{build-length}
 use Rattle.printed.specs.Put.{TextPut}
 use Rattle.printed.specs.Text.{dotLine}
@@ -33,6 +33,25 @@ pub put-start : {a b : List ℕ} {e : ℕ} {xs : List ℕ} → TextPut a 0 xs b 
 put-start {a} {xs = xs} x h =
     let z : 0 + length xs ≡ length xs = omega arith in
     x .holds ∙ sets-eq xs a 0 (omega arith) ∙ ap (λ (n : ℕ). xs ++ drop n a) z
+
+-- a text at the start of what is behind a place, and of what is before one
+pub put-behind : {a b : List ℕ} {e : ℕ} {xs : List ℕ} (n : ℕ) → n + length xs ≤ length a → TextPut (drop n a) 0 xs b e → TextPut a n xs (take n a ++ b) (n + e)
+put-behind {a} {b} {e} {xs} n h x =
+    record {
+      holds = ap (λ (l : List ℕ). take n a ++ l) (put-start x (rw length-drop (omega arith)) ∙ ap (λ (l : List ℕ). xs ++ l) (drop-drop (length xs) n a)) ∙ sym (append-assoc (take n a) xs (drop (n + length xs) a)) ∙ sym (sets-eq xs a n h);
+      ends = omega (arith, x .ends);
+    }
+
+pub put-before : {a b : List ℕ} {e : ℕ} {xs : List ℕ} (n : ℕ) → length xs ≤ n → n ≤ length a → TextPut (take n a) 0 xs b e → TextPut a 0 xs (b ++ drop n a) e
+put-before {a} {b} {e} {xs} n few many x =
+    let z : 0 + length xs ≡ length xs = omega arith in
+    let long : length xs ≤ length (take n a) = rw (length-take-le n a many) few in
+    record {
+      holds = ap (λ (l : List ℕ). l ++ drop n a) (put-start x long) ∙ append-assoc xs (drop (length xs) (take n a)) (drop n a)
+          ∙ ap (λ (l : List ℕ). xs ++ l) (sym (drop-append-le (length xs) (take n a) (drop n a) long) ∙ ap (drop (length xs)) (take-append-drop n a))
+          ∙ sym (sets-eq xs a 0 (omega arith) ∙ ap (λ (m : ℕ). xs ++ drop m a) z);
+      ends = x .ends;
+    }
 
 -- so much of a text of `size` characters as a loop has written
 pub record Putting (a : List ℕ) (at : ℕ) (text : List ℕ) (size : ℕ) (b : List ℕ) (w : ℕ) : Type 0 where

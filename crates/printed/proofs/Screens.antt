@@ -2,25 +2,27 @@
 use mathlib.Core.Path.{_≡_, refl, ap, sym, _∙_}
 use mathlib.Core.Bool.{Bool, true, false, cond, _&&_}
 use mathlib.Core.List.{List, [], _++_, append-nil}
-use Prim.Native.Nat.{ℕ, _*_, _≤_}
+use Prim.Native.Nat.{ℕ, _+_, _*_, _≤_}
 use native.Mathlib.Decide.{ℕ-discrete}
 use native.Mathlib.Omega.{arith}
-use lib.Dec.{eqb}
+use lib.Dec.{leb, eqb}
 use lib.ListN.{length, take, replicate, length-replicate}
 use lib.Seq.{length-take-le}
-use borrow.Author.Tests.{eqb-true, eq-eqb, ne-eqb}
+use borrow.Author.Tests.{leb-true, eqb-true, eq-eqb, ne-eqb}
 use Rattle.ground.specs.Packing.{rowBytes}
 use Rattle.ground.proofs.Tests.{both-left, both-right}
 use Rattle.state.specs.State.{validPanel}
-use Rattle.display.specs.Frame.{frameFits}
+use Rattle.state.specs.Sizes.{frameFits}
 use Rattle.state.specs.Sizes.{frameSize, validSize}
 use Rattle.state.proofs.Sizes.{is-size}
 use Rattle.state.proofs.Valid.{Panelled, panelled}
-use Rattle.controller.specs.Types.{Panel}
+use Rattle.state.specs.declared.panel.Panel.{Panel}
 use Rattle.printed.specs.Put.{TextPut}
 use Rattle.printed.specs.Printed.{frameLines, printed, printText}
 use Rattle.printed.specs.Screen.{screenLines, pictureText, rehearsalText, framed, lentScreen, printPictureOf, printRehearsalOf}
+use Rattle.printed.specs.Parts.{printRowsOf}
 use Rattle.printed.specs.Ready.{Lines}
+use Rattle.printed.proofs.Prints.{lines-few, frame-lines-length}
 use Rattle.printed.proofs.Puts.{put-same, put-both, put-length}
 use Rattle.printed.proofs.Texts.{printed-none, printed-all, printed-within, printed-settled}
 
@@ -92,6 +94,32 @@ module _ (p : Panel) (number : ℕ) (frame out line : List ℕ) {t : Bool} (i : 
     screen-all x y s =
         printed-all (lentScreen p number frame out) (line ++ screenLines p number frame) out (lent-is true h) (put-both x y)
         (omega (arith, screen-room))
+
+-- the rows alone
+module _ (p : Panel) (frame out : List ℕ) {t : Bool} (i : t ≡ framed p 0 frame) where
+  rows-lent : (v : Bool) → (t && leb 164096 (length out)) ≡ v → (validPanel p && frameFits p frame && leb 164096 (length out)) ≡ v
+  rows-lent v h = ap (λ (b : Bool). b && leb 164096 (length out)) (sym i) ∙ h
+
+  pub rows-unprinted : (t && leb 164096 (length out)) ≡ false → printed 0 out ≡ printRowsOf p frame out
+  unfolding printRowsOf
+  rows-unprinted h =
+      printed-none (validPanel p && frameFits p frame && leb 164096 (length out)) (frameLines p frame) out (rows-lent false h)
+
+  module _ (h : (t && leb 164096 (length out)) ≡ true) where
+    pub rows-panel : Panelled p
+    rows-panel = framed-panel p 0 frame refl (sym i ∙ both-left t _ h)
+
+    pub rows-length : length frame ≡ 8 * p .lines * rowBytes (p .columns) (p .width)
+    rows-length = framed-length p 0 frame refl (sym i ∙ both-left t _ h)
+
+    pub rows-room : 8 * p .lines * (p .columns * p .width + 1) ≤ length out
+    rows-room = omega (arith, leb-true 164096 (length out) (both-right t _ h), lines-few p rows-panel)
+
+    pub rows-printed : {b : List ℕ} {w : ℕ} → TextPut out 0 (frameLines p frame) b w → printed w b ≡ printRowsOf p frame out
+    unfolding printRowsOf
+    rows-printed x =
+        printed-all (validPanel p && frameFits p frame && leb 164096 (length out)) (frameLines p frame) out (rows-lent true h) x
+        (omega (arith, x .ends, frame-lines-length p frame, rows-room))
 
 module _ (p : Panel) (number place : ℕ) (frame out : List ℕ) {b : List ℕ} {w : ℕ} where
   -- the text stands in its room

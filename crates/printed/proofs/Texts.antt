@@ -2,9 +2,10 @@
 use mathlib.Core.Path.{_≡_, ap, sym, subst, _∙_}
 use mathlib.Core.Bool.{Bool, true, false, cond}
 use mathlib.Core.List.{List, _++_}
-use Prim.Native.Nat.{ℕ, _≤_}
+use Prim.Native.Nat.{ℕ, _+_, _≤_}
 use native.Mathlib.Omega.{arith}
-use lib.ListN.{length, drop, length-append}
+use lib.ListN.{length, drop, length-append, length-drop}
+use lib.Seq.{sets-eq}
 use Rattle.ground.proofs.Tests.{cond-has, settled}
 use Rattle.printed.specs.declared.told.Told.{Told}
 use Rattle.printed.specs.Put.{TextPut}
@@ -20,6 +21,19 @@ module _ (lent : Bool) (text out : List ℕ) where
       let n : w ≡ length text = omega (arith, x .ends) in
       (λ k. printed (n k) (put-start x (omega arith) k))
       ∙ (λ k. cond (sym h k) (printed (length text) (text ++ drop (length text) out)) (printed 0 out))
+
+  -- a room that keeps its length has held it
+  pub printed-few : lent ≡ true → {b : List ℕ} {w : ℕ} → printed w b ≡ printText lent text out → length b ≡ length out → length text ≤ length out
+  printed-few h {b} e k =
+      let f : b ≡ text ++ drop (length text) out = ap (λ (o : Printed). o .out) (e ∙ ap (λ (t : Bool). cond t (printed (length text) (text ++ drop (length text) out)) (printed 0 out)) h) in
+      omega (arith, k, simp (length-append, length-drop) at (ap length f))
+
+  -- and back
+  pub printed-put : lent ≡ true → length text ≤ length out → {b : List ℕ} {w : ℕ} → printed w b ≡ printText lent text out → TextPut out 0 text b w
+  printed-put h l e =
+      let z : 0 + length text ≡ length text = omega arith in
+      let f = e ∙ ap (λ (t : Bool). cond t (printed (length text) (text ++ drop (length text) out)) (printed 0 out)) h in
+      record { holds = ap (λ (o : Printed). o .out) f ∙ sym (sets-eq text out 0 (omega arith) ∙ ap (λ (n : ℕ). text ++ drop n out) z); ends = ap (λ (o : Printed). o .count) f ∙ sym z }
 
   -- the text stands in its room
   pub printed-within : {b : List ℕ} {w : ℕ} → printed w b ≡ printText lent text out → w ≤ length b

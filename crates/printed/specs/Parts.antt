@@ -2,11 +2,11 @@
 use Prim.Native.Nat.{ℕ, _/_}
 use mathlib.Core.Bool.{_&&_}
 use mathlib.Core.List.{List}
-use lib.Dec.{leb, eqb}
+use lib.Dec.{leb}
 use lib.ListN.{length}
 use Rattle.state.specs.State.{validPanel}
-use Rattle.display.specs.Frame.{frameFits}
-use Rattle.controller.specs.Types.{Panel}
+use Rattle.state.specs.Sizes.{frameFits}
+use Rattle.state.specs.declared.panel.Panel.{Panel}
 use Rattle.printed.specs.Text.{hexLines}
 use Rattle.printed.specs.Printed.{refusalLine, firstLine, frameLines, Printed, printText}
 
@@ -23,6 +23,6 @@ unfoldable pub printAnswersOf : ℕ → List ℕ → List ℕ → Printed
 printAnswersOf given answers out =
     printText (leb given (length answers) && leb given (length out / 3)) (hexLines given answers) out
 
--- lent: a frame of its panel's length, 196,608 bytes of text
+-- lent: a frame of its panel's length, 164,096 bytes of text, which suffice
 unfoldable pub printRowsOf : Panel → List ℕ → List ℕ → Printed
-printRowsOf p frame out = printText (validPanel p && frameFits p frame && eqb (length out) 196608) (frameLines p frame) out
+printRowsOf p frame out = printText (validPanel p && frameFits p frame && leb 164096 (length out)) (frameLines p frame) out

@@ -5,8 +5,8 @@ use mathlib.Core.List.{List, [], _++_}
 use lib.Dec.{eqb}
 use lib.ListN.{length}
 use Rattle.state.specs.State.{validPanel}
-use Rattle.display.specs.Frame.{frameFits}
-use Rattle.controller.specs.Types.{Panel}
+use Rattle.state.specs.Sizes.{frameFits}
+use Rattle.state.specs.declared.panel.Panel.{Panel}
 use Rattle.printed.specs.Printed.{refusalLine, firstLine, frameLines, Printed, printText}
 
 -- the rows of a screen that was not refused

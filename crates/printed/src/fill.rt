@@ -1,4 +1,4 @@
-// Memory, answers and characters as a program finds them.
+// Memory and characters as a program finds them.
 ghost use mathlib.Core.Path.{_≡_};
 ghost use lib.ListN.{length};
 ghost use Rattle.ground.specs.Lists.{build, zeros};
@@ -31,12 +31,4 @@ pub fn empty_memory() -> [u8; 65536]
     ensures { λ r. ⌜ 65536 ≡ length r ⌝ }
 {
     [0; 65536]
-}
-
-// Room for an answer to every pair of a log.
-pub(crate) fn no_answers() -> [u8; 8192]
-    ensures { λ r. ⌜ r ≡ zeros 8192 ⌝ }
-    ensures { λ r. ⌜ 8192 ≡ length r ⌝ }
-{
-    [0; 8192]
 }

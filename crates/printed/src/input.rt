@@ -1,7 +1,7 @@
-// The panel, the log, a byte and a book out of a program's input.
+// The panel, a byte and a book out of a program's input.
 ghost use mathlib.Core.Path.{_≡_};
 ghost use lib.ListN.{getD, drop};
-ghost use Rattle.printed.specs.Printed.{panelIn, logIn};
+ghost use Rattle.printed.specs.Printed.{panelIn};
 use ground::bytes::lesser;
 use state::panel::Panel;
 
@@ -22,14 +22,6 @@ pub fn panel_in(input: &[u8], dual: bool) -> Panel
         width: byte_in(input, 2) as usize,
         dual,
     }
-}
-
-pub(crate) fn log_in(input: &[u8]) -> &[u8]
-    ensures { λ r. ⌜ now r ≡ logIn (now (input .entry)) ⌝ }
-{
-    let start = lesser(3, input.len());
-    let end = lesser(3 + 16384, input.len());
-    &input[start..end]
 }
 
 // The input behind its first bytes, nothing where it ends before.

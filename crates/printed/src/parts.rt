@@ -3,10 +3,10 @@ ghost use mathlib.Core.Path.{_≡_};
 ghost use Rattle.printed.specs.Printed.{printed};
 ghost use Rattle.printed.specs.Parts.{printLineOf, printRefusalOf, printAnswersOf, printRowsOf};
 use crate::put::put_first_line;
+use crate::put::put_frame_lines;
 use crate::put::put_hex_lines;
 use crate::put::put_refusal;
 use crate::screen::is_framed;
-use crate::screen::put_screen;
 use state::panel::Panel;
 
 // The first line at the start of `out`, and its length; 0 where the room has less than 112 bytes.
@@ -43,13 +43,13 @@ pub fn print_answers(given: usize, answers: &[u8], out: &mut [u8]) -> usize
     }
 }
 
-// A frame's rows, likewise; 0 where the panel is not valid or a lent length is wrong.
+// A frame's rows, likewise; 0 where the panel is not valid, its frame has another length or the room has less than 164,096 bytes.
 pub fn print_rows(panel: Panel, frame: &[u8], out: &mut [u8]) -> usize
     ensures { λ r. ⌜ printed r (now (out .exit)) ≡ printRowsOf panel (now (frame .entry)) (now (out .entry)) ⌝ }
 {
-    let fits = is_framed(panel, 0, frame) & (out.len() == 196608);
+    let fits = is_framed(panel, 0, frame) & (164096 <= out.len());
     if fits {
-        put_screen(panel, 0, frame, out, 0)
+        put_frame_lines(out, 0, panel, frame)
     } else {
         0
     }

@@ -28,29 +28,31 @@ struct Heard {
     failed: bool,
 }
 
-// The next part of the log, 32,768 pairs where it is not the last: played, its answers written.
-fn play_part(panel: Panel, past: Ran, memory: &mut [u8], rom: &[u8]) -> Heard {
-    let mut part = io::large_buffer();
-    let got = read_whole(STDIN_FILENO, &mut part);
-    if got.failed {
-        return Heard {
-            ran: past,
-            bytes: 0,
-            failed: true,
-        };
-    }
-    let whole = got.count / 2 * 2;
+// A part of the log played, its answers written.
+fn play_part(
+    panel: Panel,
+    past: Ran,
+    memory: &mut [u8],
+    rom: &[u8],
+    part: &[u8],
+    bytes: usize,
+) -> Heard {
     let mut answers = [0u8; 32768];
-    let played = play(panel, past, memory, rom, &part[..whole], &mut answers);
-    let mut out = [0u8; 98304];
-    let lines = print_answers(played.given, &answers, &mut out);
-    let written = io::write_all(STDOUT_FILENO, &out[..lines]);
+    let played = play(panel, past, memory, rom, part, &mut answers);
+    let written = write_answers(played.given, &answers);
     let ran = played.ran;
     Heard {
         ran,
-        bytes: got.count,
+        bytes,
         failed: !written,
     }
+}
+
+// The line of a pair skipped.
+fn tell_one(number: u8, place: usize) -> bool {
+    let mut line = [0u8; 56];
+    let end = put_refused(number, place, &mut line);
+    io::write_all(STDOUT_FILENO, &line[..end])
 }
 
 // The lines of the pairs skipped, their places counted from the whole log's start.
@@ -60,11 +62,9 @@ fn tell_skipped(skips: &[usize], count: usize, before: usize) -> bool {
         if skips.len() / 2 <= i {
             return true;
         }
-        let mut line = [0u8; 56];
         let number = (skips[2 * i] % 256) as u8;
         let place = std::num::wrapping_add_usize(before, skips[2 * i + 1]);
-        let end = put_refused(number, place, &mut line);
-        if !io::write_all(STDOUT_FILENO, &line[..end]) {
+        if !tell_one(number, place) {
             return false;
         }
         i += 1;
@@ -73,7 +73,30 @@ fn tell_skipped(skips: &[usize], count: usize, before: usize) -> bool {
 }
 
 // The same by the ordinary run, with a line for each pair skipped.
-fn go_on(panel: Panel, past: Ran, memory: &mut [u8], rom: &[u8]) -> Heard {
+fn go_on(
+    panel: Panel,
+    past: Ran,
+    memory: &mut [u8],
+    rom: &[u8],
+    part: &[u8],
+    bytes: usize,
+) -> Heard {
+    let mut answers = [0u8; 32768];
+    let mut skips = [0usize; 65536];
+    let before = past.taken;
+    let played = play_on(panel, past, memory, rom, part, &mut answers, &mut skips);
+    let written = write_answers(played.given, &answers);
+    let told = tell_skipped(&skips, played.skipped, before);
+    let ran = played.ran;
+    Heard {
+        ran,
+        bytes,
+        failed: !written | !told,
+    }
+}
+
+// The next part of the log, 32,768 pairs where it is not the last, by the run asked for.
+fn next_part(panel: Panel, past: Ran, memory: &mut [u8], rom: &[u8], keep: bool) -> Heard {
     let mut part = io::large_buffer();
     let got = read_whole(STDIN_FILENO, &mut part);
     if got.failed {
@@ -84,36 +107,10 @@ fn go_on(panel: Panel, past: Ran, memory: &mut [u8], rom: &[u8]) -> Heard {
         };
     }
     let whole = got.count / 2 * 2;
-    let mut answers = [0u8; 32768];
-    let mut skips = [0usize; 65536];
-    let before = past.taken;
-    let played = play_on(
-        panel,
-        past,
-        memory,
-        rom,
-        &part[..whole],
-        &mut answers,
-        &mut skips,
-    );
-    let mut out = [0u8; 98304];
-    let lines = print_answers(played.given, &answers, &mut out);
-    let written = io::write_all(STDOUT_FILENO, &out[..lines]);
-    let told = tell_skipped(&skips, played.skipped, before);
-    let ran = played.ran;
-    Heard {
-        ran,
-        bytes: got.count,
-        failed: !written | !told,
-    }
-}
-
-// The next part by the run asked for.
-fn next_part(panel: Panel, past: Ran, memory: &mut [u8], rom: &[u8], keep: bool) -> Heard {
     if keep {
-        go_on(panel, past, memory, rom)
+        go_on(panel, past, memory, rom, &part[..whole], got.count)
     } else {
-        play_part(panel, past, memory, rom)
+        play_part(panel, past, memory, rom, &part[..whole], got.count)
     }
 }
 
@@ -165,6 +162,20 @@ fn put_refused(number: u8, place: usize, out: &mut [u8]) -> usize
     print_refusal(number, place, out)
 }
 
+// The lines of some answers, likewise.
+fn put_answers(given: usize, answers: &[u8], out: &mut [u8]) -> usize
+    ensures { λ r. ⌜ Counts r (now (out .exit)) ⌝ }
+{
+    print_answers(given, answers, out)
+}
+
+// Those lines written.
+fn write_answers(given: usize, answers: &[u8]) -> bool {
+    let mut out = [0u8; 98304];
+    let end = put_answers(given, answers, &mut out);
+    io::write_all(STDOUT_FILENO, &out[..end])
+}
+
 // The frame painted, and its rows, likewise.
 fn put_rows(
     panel: Panel,
@@ -180,6 +191,15 @@ fn put_rows(
     print_rows(panel, frame, out)
 }
 
+// The frame's rows written.
+fn show_frame(panel: Panel, registers: Registers, memory: &[u8], rom: &[u8]) -> bool {
+    let size = panel.frame_size();
+    let mut frame = [0u8; 20480];
+    let mut out = [0u8; 196608];
+    let count = put_rows(panel, registers, memory, rom, &mut frame[..size], &mut out);
+    io::write_all(STDOUT_FILENO, &out[..count])
+}
+
 // The run's line, and the rows of its frame, which refusals 1 and 8 have not.
 fn show(panel: Panel, ran: Ran, memory: &[u8], rom: &[u8]) -> bool {
     let mut line = [0u8; 112];
@@ -189,11 +209,7 @@ fn show(panel: Panel, ran: Ran, memory: &[u8], rom: &[u8]) -> bool {
         return written;
     }
     let registers = ran.registers;
-    let size = panel.frame_size();
-    let mut frame = [0u8; 20480];
-    let mut out = [0u8; 196608];
-    let count = put_rows(panel, registers, memory, rom, &mut frame[..size], &mut out);
-    io::write_all(STDOUT_FILENO, &out[..count])
+    show_frame(panel, registers, memory, rom)
 }
 
 fn main() {

@@ -4,6 +4,6 @@ pub use Rattle.state.specs.declared.registers.Display.{Display}
 pub use Rattle.state.specs.declared.registers.Registers.{Registers}
 pub use Rattle.single.specs.declared.access.Acted.{Acted}
 pub use Rattle.controller.specs.declared.run.RanOn.{RanOn}
-pub use Rattle.controller.specs.declared.run.Noted.{Noted}
+pub use Rattle.turns.specs.declared.note.Noted.{Noted}
 pub use Rattle.watch.specs.declared.run.FlagTurn.{FlagTurn}
 pub use Rattle.watch.specs.declared.run.Quick.{Quick}

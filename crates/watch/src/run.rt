@@ -13,7 +13,6 @@ ghost use Rattle.watch.specs.Runs.{standingFlags, turnedFlags, turnedFla
 use codes::command::is_off;
 use controller::run::Ran;
 use controller::run::RanOn;
-use controller::run::note;
 use effects::effect::is_write;
 use effects::effect::push;
 use effects::effect::with_auto;
@@ -25,6 +24,7 @@ use state::registers::Auto;
 use state::registers::Pending;
 use state::registers::Registers;
 use touch::touch::mark;
+use turns::note::note;
 
 // One pair of a run: the registers after, the answers so far, a number.
 pub(crate) struct FlagTurn {

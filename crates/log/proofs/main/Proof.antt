@@ -1,7 +1,7 @@
 -- `main` meets its contract: the text stands in its room, so that much of it can be lent.
 use mathlib.Core.Path.{sym}
 use lib.Seq.{length-take-le}
-use Rattle.printed.proofs.Prints.{print-within}
+use Rattle.log.proofs.Prints.{print-within}
 use borrow.Author.Needs.{needs}
 use Rattle.log.proofs.main.Statement.{statement}
 use Rattle.log.proofs.main.Tie as tie

@@ -1,4 +1,4 @@
--- `tell_skipped` meets its contract: an entry stands inside the list, and its line in its room.
+-- `tell_skipped` meets its contract: an entry stands inside the list.
 use Prim.Native.Nat.{_-_}
 use native.Mathlib.Omega.{arith}
 use borrow.Author.Needs.{needs}
@@ -45,20 +45,8 @@ shared-slice-read-wrapping-add-usize c = search needs
 wrapping-add-usize-requires : tie.Need-wrapping-add-usize-requires Inv-loop μ-loop
 wrapping-add-usize-requires c κs = search needs
 
-slice-aggregate-put-refused : tie.Need-slice-aggregate-put-refused Inv-loop μ-loop
-slice-aggregate-put-refused c = search needs
-
-put-refused-requires : tie.Need-put-refused-requires Inv-loop μ-loop
-put-refused-requires c κs = search needs
-
-array-share-prefix-line : tie.Need-array-share-prefix-line Inv-loop μ-loop
-array-share-prefix-line c = search needs
-
-slice-aggregate-write-all : tie.Need-slice-aggregate-write-all Inv-loop μ-loop
-slice-aggregate-write-all c = search needs
-
-write-all-requires : tie.Need-write-all-requires Inv-loop μ-loop
-write-all-requires c κs = search needs
+tell-one-requires : tie.Need-tell-one-requires Inv-loop μ-loop
+tell-one-requires c κs = search needs
 
 returns-2 : tie.Need-returns-2 Inv-loop μ-loop
 returns-2 c = search needs
@@ -92,11 +80,7 @@ tell-skipped-spec =
     mul-wrapping-add-usize-2
     shared-slice-read-wrapping-add-usize
     wrapping-add-usize-requires
-    slice-aggregate-put-refused
-    put-refused-requires
-    array-share-prefix-line
-    slice-aggregate-write-all
-    write-all-requires
+    tell-one-requires
     returns-2
     add-i
     loop-less
