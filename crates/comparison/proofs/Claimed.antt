@@ -12,7 +12,7 @@ use Rattle.state.specs.State.{validDisplay, validBus, validRegisters}
 use Rattle.state.proofs.Valid.{bussing}
 use Rattle.display.specs.Frame.{dotOf, frameOf}
 use Rattle.comparison.specs.Types.{Panel, Combination, Or, Exor, And, Attribute, DisplayBits, Display, Auto, Off, Write, Read, Pending, Registers}
-use Rattle.comparison.specs.Whole.{RanWhole}
+use Rattle.whole.specs.Whole.{RanWhole}
 use Rattle.comparison.specs.Registered.{flagNumber, combinationNumber, autoNumber, bitsNumber, pendingNumber, registerValues}
 use Rattle.comparison.specs.Listed.{Difference, difference, differencesFrom}
 use Rattle.comparison.specs.Apart.{rowApart, dotsApart}

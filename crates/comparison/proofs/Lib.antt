@@ -1,4 +1,3 @@
-pub mod Wholes
 pub mod Listings
 pub mod Aparts
 pub mod Copies

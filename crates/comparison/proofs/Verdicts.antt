@@ -21,7 +21,7 @@ use Rattle.controller.proofs.Splitting.{running-kept, inside}
 use Rattle.playback.proofs.Parted.{door-8}
 use Rattle.comparison.specs.Types.{Panel, Registers, Ran}
 use Rattle.comparison.specs.declared.compare.Compared.{Compared}
-use Rattle.comparison.specs.Whole.{RanWhole, ranWhole, withoutAnswers, wholeOf}
+use Rattle.whole.specs.Whole.{RanWhole, ranWhole, withoutAnswers, wholeOf}
 use Rattle.comparison.specs.Registered.{registerValues}
 use Rattle.comparison.specs.Listed.{Difference, differencesFrom, numbersOf}
 use Rattle.comparison.specs.Apart.{dotsApart}

@@ -7,7 +7,7 @@ use lib.ListN.{length}
 use Rattle.state.specs.State.{validRegisters}
 use Rattle.display.specs.Frame.{frameOf}
 use Rattle.comparison.specs.Types.{Panel}
-use Rattle.comparison.specs.Whole.{RanWhole}
+use Rattle.whole.specs.Whole.{RanWhole}
 use Rattle.comparison.specs.Apart.{dotsApart}
 use Rattle.comparison.specs.Verdict.{entriesOf}
 

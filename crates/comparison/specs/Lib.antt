@@ -1,6 +1,4 @@
 pub mod Types
-pub mod Whole
-pub mod Played
 pub mod Registered
 pub mod Listed
 pub mod Apart

@@ -8,7 +8,7 @@ use lib.Seq.{sets}
 use Rattle.state.specs.State.{validPanel, resetRegisters}
 use Rattle.comparison.specs.Types.{Panel, Registers}
 use Rattle.comparison.specs.declared.compare.Compared.{Compared}
-use Rattle.comparison.specs.Whole.{RanWhole, wholeOf}
+use Rattle.whole.specs.Whole.{RanWhole, wholeOf}
 use Rattle.comparison.specs.Registered.{registerValues}
 use Rattle.comparison.specs.Listed.{Difference, differencesFrom, numbersOf}
 use Rattle.comparison.specs.Apart.{dotsApart}

@@ -4,10 +4,9 @@ ghost use mathlib.Core.Bool.{true};
 ghost use lib.ListN.{length};
 ghost use Rattle.state.specs.State.{validPanel, resetRegisters};
 ghost use Rattle.display.specs.Frame.{lentLengths};
-ghost use Rattle.comparison.specs.Whole.{ranWhole, wholeOf};
+ghost use Rattle.whole.specs.Whole.{ranWhole, wholeOf};
 ghost use Rattle.comparison.specs.Ready.{Pictured, Paints};
 ghost use Rattle.comparison.specs.Verdict.{uncompared, comparedAll, listedOf, afterTwo, afterOne, compareOf};
-use super::all::run_all;
 use super::dots::dots;
 use super::list::count_bytes;
 use super::list::count_values;
@@ -17,6 +16,7 @@ use super::values::register_values;
 use controller::run::Ran;
 use state::panel::Panel;
 use state::registers::Registers;
+use whole::all::run_all;
 
 // A number, its place and the log that it is of, 0 for neither; the entries listed of memory, then of registers; the dots that differ.
 pub struct Compared {

@@ -1,5 +1,5 @@
 -- `run_second` meets its contract: refused, or what differs is listed.
-use Rattle.comparison.specs.Whole.{ranWhole}
+use Rattle.whole.specs.Whole.{ranWhole}
 use Rattle.comparison.proofs.Verdicts.{whole-paints, pictured, by-reset, second-refused, second-lists}
 use borrow.Author.Needs.{needs}
 use Rattle.comparison.proofs.compare.run_second.Statement.{statement}

@@ -1,8 +1,8 @@
 -- `play_part` meets its contract.
-use Rattle.comparison.proofs.Wholes.{part-played}
+use Rattle.whole.proofs.Wholes.{part-played}
 use borrow.Author.Needs.{needs}
-use Rattle.comparison.proofs.all.play_part.Statement.{statement}
-use Rattle.comparison.proofs.all.play_part.Tie as tie
+use Rattle.whole.proofs.all.play_part.Statement.{statement}
+use Rattle.whole.proofs.all.play_part.Tie as tie
 
 no-answers-requires : tie.Need-no-answers-requires
 no-answers-requires c κs = search needs

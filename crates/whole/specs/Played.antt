@@ -3,8 +3,9 @@ use Prim.Native.Nat.{ℕ}
 use mathlib.Core.List.{List}
 use Rattle.ground.specs.Lists.{zeros}
 use Rattle.playback.specs.Play.{PlayedAll, playOf}
-use Rattle.comparison.specs.Types.{Panel, Ran}
-use Rattle.comparison.specs.Whole.{RanWhole, ranWhole}
+use Rattle.state.specs.declared.panel.Panel.{Panel}
+use Rattle.controller.specs.declared.run.Ran.{Ran}
+use Rattle.whole.specs.Whole.{RanWhole, ranWhole}
 
 abbrev pub withoutGiven : PlayedAll → RanWhole
 withoutGiven x = ranWhole (x .played .ran) (x .memory)

@@ -5,7 +5,9 @@ use lib.ListN.{length}
 use Rattle.ground.specs.Lists.{zeros}
 use Rattle.controller.specs.Run.{RanAll}
 use Rattle.playback.specs.Parts.{wholeRun}
-use Rattle.comparison.specs.Types.{Panel, Registers, Ran}
+use Rattle.state.specs.declared.panel.Panel.{Panel}
+use Rattle.state.specs.declared.registers.Registers.{Registers}
+use Rattle.controller.specs.declared.run.Ran.{Ran}
 
 -- a run's reply, and the display memory then
 pub record RanWhole : Type 0 where

@@ -3,10 +3,10 @@ use mathlib.Core.Path.{_≡_, refl}
 use Prim.Native.Nat.{_-_}
 use native.Mathlib.Omega.{arith}
 use lib.ListN.{length}
-use Rattle.comparison.proofs.Wholes.{Playing, playing, plays-on, played-whole, odd-whole}
+use Rattle.whole.proofs.Wholes.{Playing, playing, plays-on, played-whole, odd-whole}
 use borrow.Author.Needs.{needs}
-use Rattle.comparison.proofs.all.run_all.Statement.{statement}
-use Rattle.comparison.proofs.all.run_all.Tie as tie
+use Rattle.whole.proofs.all.run_all.Statement.{statement}
+use Rattle.whole.proofs.all.run_all.Tie as tie
 
 abbrev Inv-loop : tie.InvT-loop
 Inv-loop panel mem₀ rom log ran₀ at₀ mem ran at = Playing panel rom log ran₀ mem₀ ran mem at × (length mem ≡ length mem₀)

@@ -2,8 +2,8 @@
 ghost use mathlib.Core.Path.{_≡_};
 ghost use lib.ListN.{length};
 ghost use Rattle.ground.specs.Lists.{zeros};
-ghost use Rattle.comparison.specs.Whole.{ranWhole, wholeOf};
-ghost use Rattle.comparison.specs.Played.{withoutGiven, playedPart};
+ghost use Rattle.whole.specs.Whole.{ranWhole, wholeOf};
+ghost use Rattle.whole.specs.Played.{withoutGiven, playedPart};
 use controller::run::Ran;
 use controller::run::run_stopping;
 use ground::bytes::lesser;

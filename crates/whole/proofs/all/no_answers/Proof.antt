@@ -1,8 +1,8 @@
 -- `no_answers` meets its contract.
 use mathlib.Core.Path.{refl}
-use Rattle.comparison.proofs.Wholes.{zeros-are}
-use Rattle.comparison.proofs.all.no_answers.Statement.{statement}
-use Rattle.comparison.proofs.all.no_answers.Tie as tie
+use Rattle.whole.proofs.Wholes.{zeros-are}
+use Rattle.whole.proofs.all.no_answers.Statement.{statement}
+use Rattle.whole.proofs.all.no_answers.Tie as tie
 
 returns : tie.Need-returns
 returns c = (zeros-are 4096, refl)

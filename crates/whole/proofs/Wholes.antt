@@ -19,9 +19,11 @@ use Rattle.playback.specs.declared.play.Played.{Played}
 use Rattle.playback.specs.Play.{PlayedAll, playedAll, playOf}
 use Rattle.playback.specs.Parts.{Part, logOfParts, Cut, none, one, PartsGathered, gather, playParts, begun, wholeRun}
 use Rattle.playback.proofs.Parted.{part-by-part}
-use Rattle.comparison.specs.Types.{Panel, Registers, Ran}
-use Rattle.comparison.specs.Whole.{RanWhole, ranWhole, withoutAnswers, wholeOf}
-use Rattle.comparison.specs.Played.{withoutGiven, playedPart}
+use Rattle.state.specs.declared.panel.Panel.{Panel}
+use Rattle.state.specs.declared.registers.Registers.{Registers}
+use Rattle.controller.specs.declared.run.Ran.{Ran}
+use Rattle.whole.specs.Whole.{RanWhole, ranWhole, withoutAnswers, wholeOf}
+use Rattle.whole.specs.Played.{withoutGiven, playedPart}
 
 zeros-length : (n : ℕ) → length (zeros n) ≡ n
 unfolding zeros
@@ -37,14 +39,34 @@ partsOf zero log = []
 partsOf (suc n) [] = []
 partsOf (suc n) (x ∷ log) = record { log = take 8192 (x ∷ log); room = zeros 4096 } ∷ partsOf n (drop 8192 (x ∷ log))
 
+-- of n bytes, by number alone
+first-even : (n : ℕ) → n % 2 ≡ 0 → min 8192 n % 2 ≡ 0
+first-even n e = go (decLe 8192 n)
+  where
+    go : Dec (8192 ≤ n) → min 8192 n % 2 ≡ 0
+    go (yes h) = let f : min 8192 n ≡ 8192 = omega arith in ap (λ (k : ℕ). k % 2) f
+    go (no h) = let f : min 8192 n ≡ n = omega arith in ap (λ (k : ℕ). k % 2) f ∙ e
+
+first-fits : (n : ℕ) → min 8192 n / 2 ≤ 4096
+first-fits n = omega arith
+
+rest-even : (n : ℕ) → n % 2 ≡ 0 → (n - 8192) % 2 ≡ 0
+rest-even n e = omega arith
+
+cut-first : (l : List ℕ) {ps : List Part} → length l % 2 ≡ 0 → Cut ps → Cut (record { log = take 8192 l; room = zeros 4096 } ∷ ps)
+cut-first l e c =
+    one {q = record { log = take 8192 l; room = zeros 4096 }}
+    (ap (λ (k : ℕ). k % 2) (length-take 8192 l) ∙ first-even (length l) e)
+    (omega (arith, length-take 8192 l, first-fits (length l), zeros-length 4096))
+    c
+
 parts-cut : (n : ℕ) (log : List ℕ) → length log % 2 ≡ 0 → Cut (partsOf n log)
 unfolding partsOf
 parts-cut zero log e = none
 parts-cut (suc n) [] e = none
 parts-cut (suc n) (x ∷ log) e =
-    let l : length (take 8192 (x ∷ log)) ≡ min 8192 (length (x ∷ log)) = length-take 8192 (x ∷ log) in
-    let d : length (drop 8192 (x ∷ log)) ≡ length (x ∷ log) - 8192 = length-drop 8192 (x ∷ log) in
-    one {q = record { log = take 8192 (x ∷ log); room = zeros 4096 }} (omega arith) (omega (arith, zeros-length 4096)) (parts-cut n (drop 8192 (x ∷ log)) (omega arith))
+    cut-first (x ∷ log) e
+    (parts-cut n (drop 8192 (x ∷ log)) (ap (λ (k : ℕ). k % 2) (length-drop 8192 (x ∷ log)) ∙ rest-even (length (x ∷ log)) e))
 
 parts-log : (n : ℕ) (log : List ℕ) → length log ≤ 8192 * n → logOfParts (partsOf n log) ≡ log
 unfolding partsOf logOfParts
