@@ -1,13 +1,14 @@
 -- Dots counted, one after the other, and rows added up.
 use mathlib.Core.Path.{_≡_, refl, ap, sym, _∙_}
 use mathlib.Core.Bool.{Bool, true, false, cond, not}
-use mathlib.Core.List.{List}
+use mathlib.Core.List.{List, _++_}
 use mathlib.Core.Logic.{⊎-elim}
 use Prim.Native.Nat.{ℕ, zero, suc, _+_, _-_, _*_, _/_, _%_, _<_, _≤_}
 use native.Mathlib.Numerals.{add-one}
 use native.Mathlib.Omega.{arith}
 use lib.Dec.{eqb}
-use lib.ListN.{length, getD}
+use lib.ListN.{length, getD, take}
+use lib.Seq.{getD-take, take-append-seam}
 use borrow.Author.Tests.{eq-eqb}
 use Rattle.ground.specs.Bytes.{bitOf}
 use Rattle.state.specs.Sizes.{rowSize, validSize}
@@ -16,10 +17,10 @@ use Rattle.state.specs.State.{validPanel}
 use Rattle.display.specs.Frame.{dotOf, rowOf, replyOf, Painted, painted}
 use Rattle.display.specs.OneRow.{paintOneOf}
 use Rattle.display.specs.Types.{Reply}
-use Rattle.display.proofs.OneRows.{row-dot, one-is}
+use Rattle.display.proofs.OneRows.{row-length, row-dot, one-is}
 use Rattle.comparison.specs.Types.{Panel, Display}
 use Rattle.comparison.specs.Apart.{howMany, addedUp, rowApart, dotsApart}
-use Rattle.comparison.specs.Ready.{Pictured}
+use Rattle.comparison.specs.Ready.{Pictured, Paints}
 
 pub many-few : (n : ℕ) (test : ℕ → Bool) → howMany n test ≤ n
 unfolding howMany
@@ -68,24 +69,32 @@ many-on f g {count} {n} {a} {b} {d} k h i e =
 abbrev pub bitIn : List ℕ → ℕ → ℕ
 bitIn l x = bitOf (getD l (x / 8) 0) (7 - x % 8)
 
--- two rows painted, and the bits in them that differ
-pub row-apart : (p : Panel) (d : Display) (mem : List ℕ) (e : Display) (memory rom : List ℕ) (r : ℕ) {a b : List ℕ} {count : ℕ}
-    → a ≡ rowOf p d mem rom r → b ≡ rowOf p e memory rom r → count ≡ howMany (p .columns * p .width) (unlike (bitIn a) (bitIn b))
-    → count ≡ rowApart p d mem e memory rom r
-row-apart p d mem e memory rom r {a} {b} h k c =
+-- two rows painted at the start of longer lists, and the bits in them that differ
+row-bit : (p : Panel) (d : Display) (mem rom : List ℕ) (r : ℕ) (a : List ℕ) → take (rowSize p) a ≡ rowOf p d mem rom r → (x : ℕ) → x < p .columns * p .width
+    → bitIn a x ≡ dotOf p d mem rom r x
+row-bit p d mem rom r a h x l =
+    ap (λ (n : ℕ). bitOf n (7 - x % 8)) (sym (getD-take (rowSize p) a (x / 8) 0 (omega (arith, l))))
+    ∙ ap (λ (y : List ℕ). bitIn y x) h ∙ row-dot p d mem rom r x (omega (arith, l))
+
+pub row-apart : (p : Panel) (d : Display) (mem : List ℕ) (e : Display) (memory rom : List ℕ) (r : ℕ) (a b : List ℕ) {count : ℕ}
+    → take (rowSize p) a ≡ rowOf p d mem rom r → take (rowSize p) b ≡ rowOf p e memory rom r
+    → count ≡ howMany (p .columns * p .width) (unlike (bitIn a) (bitIn b)) → count ≡ rowApart p d mem e memory rom r
+row-apart p d mem e memory rom r a b h k c =
     c ∙ many-cong (p .columns * p .width) (unlike (bitIn a) (bitIn b)) (unlike (dotOf p d mem rom r) (dotOf p e memory rom r))
-    (λ x l. λ i. not (eqb ((ap (λ (y : List ℕ). bitIn y x) h ∙ row-dot p d mem rom r x (omega (arith, l))) i) ((ap (λ (y : List ℕ). bitIn y x) k ∙ row-dot p e memory rom r x (omega (arith, l))) i)))
+    (λ x l. λ i. not (eqb (row-bit p d mem rom r a h x l i) (row-bit p e memory rom r b k x l i)))
 
--- a row painted, where it may be
-pub painted-row : (p : Panel) (d : Display) (mem : List ℕ) (e : Display) (memory rom : List ℕ) (r : ℕ) → Pictured p d mem e memory rom
-    → (out : List ℕ) {x : Reply} {l : List ℕ} → length out ≡ rowSize p → painted x l ≡ paintOneOf p d mem rom r out → l ≡ rowOf p d mem rom r
-painted-row p d mem e memory rom r k out h q =
-    ap (λ (o : Painted). o .frame) (q ∙ one-is p d mem rom r out (k .panel) (k .one) (k .first) h)
+-- a row painted, where it may be, and what stands behind it
+pub row-first : (p : Panel) (d : Display) (mem rom : List ℕ) (r : ℕ) → Paints p d mem rom → (out rest : List ℕ) {x : Reply} {l : List ℕ}
+    → length out ≡ rowSize p → painted x l ≡ paintOneOf p d mem rom r out → take (rowSize p) (l ++ rest) ≡ rowOf p d mem rom r
+row-first p d mem rom r k out rest {l = l} h q =
+    let e : l ≡ rowOf p d mem rom r = ap (λ (o : Painted). o .frame) (q ∙ one-is p d mem rom r out (k .panel) (k .state) (k .lent) h) in
+    ap (λ (n : ℕ). take n (l ++ rest)) (sym (ap length e ∙ row-length p d mem rom r)) ∙ take-append-seam l rest ∙ e
 
-pub other-row : (p : Panel) (d : Display) (mem : List ℕ) (e : Display) (memory rom : List ℕ) (r : ℕ) → Pictured p d mem e memory rom
-    → (out : List ℕ) {x : Reply} {l : List ℕ} → length out ≡ rowSize p → painted x l ≡ paintOneOf p e memory rom r out → l ≡ rowOf p e memory rom r
-other-row p d mem e memory rom r k out h q =
-    ap (λ (o : Painted). o .frame) (q ∙ one-is p e memory rom r out (k .panel) (k .two) (k .second) h)
+pub left-paints : {p : Panel} {d e : Display} {mem memory rom : List ℕ} → Pictured p d mem e memory rom → Paints p d mem rom
+left-paints k = record { panel = k .panel; state = k .one; lent = k .first }
+
+pub right-paints : {p : Panel} {d e : Display} {mem memory rom : List ℕ} → Pictured p d mem e memory rom → Paints p e memory rom
+right-paints k = record { panel = k .panel; state = k .two; lent = k .second }
 
 pub row-size-few : (p : Panel) → validPanel p ≡ true → {n : ℕ} → n ≡ validSize p (rowSize p) → n ≤ 80
 row-size-few p v e = omega (arith, is-size p v e, bytes-few p v)

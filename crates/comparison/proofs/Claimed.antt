@@ -16,8 +16,8 @@ use Rattle.whole.specs.Whole.{RanWhole}
 use Rattle.comparison.specs.Registered.{flagNumber, combinationNumber, autoNumber, bitsNumber, pendingNumber, registerValues}
 use Rattle.comparison.specs.Listed.{Difference, difference, differencesFrom}
 use Rattle.comparison.specs.Apart.{rowApart, dotsApart}
-use Rattle.comparison.specs.Verdict.{memoryApart, registersApart, entriesOf}
-use Rattle.comparison.specs.Claims.{AllAgree, Same}
+use Rattle.comparison.specs.Verdict.{memoryApart, registersApart}
+use Rattle.comparison.specs.Claims.{entriesOf, AllAgree, Same}
 use Rattle.comparison.proofs.Registries.{values-length}
 use Rattle.comparison.proofs.Aparts.{many-none, added-none}
 

@@ -25,8 +25,9 @@ use Rattle.whole.specs.Whole.{RanWhole, ranWhole, withoutAnswers, wholeOf}
 use Rattle.comparison.specs.Registered.{registerValues}
 use Rattle.comparison.specs.Listed.{Difference, differencesFrom, numbersOf}
 use Rattle.comparison.specs.Apart.{dotsApart}
-use Rattle.comparison.specs.Ready.{Pictured, Paints}
-use Rattle.comparison.specs.Verdict.{ComparedAll, comparedAll, uncompared, memoryApart, registersApart, entriesOf, listedOf, afterTwo, afterOne, memoriesFit, compareOf}
+use Rattle.comparison.specs.Ready.{Alike, Pictured, Paints}
+use Rattle.comparison.specs.Verdict.{ComparedAll, comparedAll, uncompared, memoryApart, registersApart, listedOf, afterTwo, afterOne, memoriesFit, compareOf}
+use Rattle.comparison.proofs.Registries.{values-length}
 use Rattle.comparison.proofs.Listings.{differences-few, numbers-append, numbers-length, sets-append}
 
 -- a run from a valid state leaves one, and a memory of its length
@@ -43,11 +44,11 @@ module _ (p : Panel) (r : Registers) (mem rom log : List ℕ) (n : ℕ) (answers
   stops-sound (no o) =
       subst (λ (x : RanAll). (validRegisters (x .ran .registers) ≡ true) × (length (x .memory) ≡ 65536)) (sym (door-8 p r mem rom log n answers (both v w) l o)) (w, long)
 
-pub whole-paints : (p : Panel) (r : Registers) (mem rom log : List ℕ) → validPanel p ≡ true → validRegisters r ≡ true → lentLengths mem rom ≡ true
-    → {ran : Ran} {m : List ℕ} → ranWhole ran m ≡ wholeOf p r mem rom log → Paints p (ran .registers .display) m rom
+pub whole-paints : (p : Panel) (mem rom log : List ℕ) → validPanel p ≡ true → lentLengths mem rom ≡ true
+    → {ran : Ran} {m : List ℕ} → ranWhole ran m ≡ wholeOf p resetRegisters mem rom log → Paints p (ran .registers .display) m rom
 unfolding wholeOf
-whole-paints p r mem rom log v w l {ran} {m} e =
-    let s = stops-sound p r mem rom log (length log / 2) (zeros (length log / 2)) v w l (ℕ-discrete (length log % 2) 0) in
+whole-paints p mem rom log v l {ran} {m} e =
+    let s = stops-sound p resetRegisters mem rom log (length log / 2) (zeros (length log / 2)) v refl l (ℕ-discrete (length log % 2) 0) in
     record {
       panel = v;
       state = both-left (validDisplay (ran .registers .display)) (validBus (ran .registers .bus)) (ap (λ (x : RanWhole). validRegisters (x .ran .registers)) e ∙ s .0);
@@ -61,92 +62,88 @@ pictured a b = record { panel = a .panel; one = a .state; two = b .state; first 
 pub by-reset : (p : Panel) {r : Registers} (mem rom log : List ℕ) {x : RanWhole} → r ≡ resetRegisters → x ≡ wholeOf p r mem rom log → x ≡ wholeOf p resetRegisters mem rom log
 by-reset p mem rom log h e = e ∙ ap (λ (r : Registers). wholeOf p r mem rom log) h
 
--- both memories have the ROM's right lengths, and so one length
-pub same-size : {p : Panel} {d e : _} {mem memory rom : List ℕ} → Pictured p d mem e memory rom → length mem ≡ length memory
-same-size {mem = mem} {memory} {rom} k =
-    eqb-true (length mem) 65536 (both-left (eqb (length mem) 65536) (eqb (length rom) 1024) (k .first))
-    ∙ sym (eqb-true (length memory) 65536 (both-left (eqb (length memory) 65536) (eqb (length rom) 1024) (k .second)))
-
-pub first-size : {p : Panel} {d e : _} {mem memory rom : List ℕ} → Pictured p d mem e memory rom → length mem ≡ 65536
-first-size {mem = mem} {rom = rom} k = eqb-true (length mem) 65536 (both-left (eqb (length mem) 65536) (eqb (length rom) 1024) (k .first))
-
--- no more than there are
-pub few-bytes : {p : Panel} {d e : _} {mem memory rom : List ℕ} {m : ℕ} → Pictured p d mem e memory rom → m ≡ length (differencesFrom 0 mem memory) → m ≤ 65536
-few-bytes {mem = mem} {memory} k h = omega (arith, h, differences-few 0 mem memory, first-size k)
+-- both memories are 64 KiB, and the registers 17
+pub alike : {p : Panel} (r q : Registers) {mem memory rom a b : List ℕ} → Pictured p (r .display) mem (q .display) memory rom
+    → a ≡ registerValues r → b ≡ registerValues q → Alike mem memory a b
+alike r q {mem} {memory} {rom} k f g =
+    let m = eqb-true (length mem) 65536 (both-left (eqb (length mem) 65536) (eqb (length rom) 1024) (k .first)) in
+    let n = eqb-true (length memory) 65536 (both-left (eqb (length memory) 65536) (eqb (length rom) 1024) (k .second)) in
+    let x = ap length f ∙ values-length r in
+    let y = ap length g ∙ values-length q in
+    record { bytes = m ∙ sym n; memory = omega (arith, m); values = x ∙ sym y; registers = omega (arith, x) }
 
 -- counted, and then listed or not
-module _ (p : Panel) (rom list : List ℕ) (first second : Ran) (one two : List ℕ) {va vb : List ℕ} (f : va ≡ registerValues (first .registers)) (g : vb ≡ registerValues (second .registers))
-    {m n : ℕ} (h : m ≡ length (differencesFrom 0 one two)) (k : n ≡ length (differencesFrom 0 va vb)) where
-  abbrev a : RanWhole
-  a = ranWhole first one
+module _ (list one two a b : List ℕ) (dots : ℕ) (o : Alike one two a b) {m n : ℕ} (h : m ≡ length (differencesFrom 0 one two)) (k : n ≡ length (differencesFrom 0 a b)) where
+  pub few-bytes : m ≤ 65536
+  few-bytes = omega (arith, h, differences-few 0 one two, o .memory)
 
-  abbrev b : RanWhole
-  b = ranWhole second two
+  pub few-values : n ≤ 17
+  few-values = omega (arith, k, differences-few 0 a b, o .registers)
 
-  registers-are : differencesFrom 0 va vb ≡ registersApart a b
-  registers-are = λ i. differencesFrom 0 (f i) (g i)
-
-  entries : m + n ≡ entriesOf a b
-  entries = (λ i. h i + k i) ∙ ap (λ (ds : List Difference). length (differencesFrom 0 one two) + length ds) registers-are
+  abbrev listed : ComparedAll
+  listed = listedOf list one two (differencesFrom 0 one two) (differencesFrom 0 a b) dots
 
   abbrev told : ComparedAll
   told =
-      comparedAll
-      (record {
-        number = 0;
-        place = 0;
-        log = 0;
-        memory = length (memoryApart a b);
-        registers = length (registersApart a b);
-        dots = dotsApart p (first .registers .display) one (second .registers .display) two rom;
-      })
-      one
-      two
-      (sets list 0 (numbersOf (memoryApart a b ++ registersApart a b)))
+      comparedAll (record { number = 0; place = 0; log = 0; memory = m; registers = n; dots = dots }) one two
+      (sets list 0 (numbersOf (differencesFrom 0 one two ++ differencesFrom 0 a b)))
 
   abbrev scarce : ComparedAll
-  scarce = comparedAll (uncompared 15 (entriesOf a b) 0) one two list
+  scarce = comparedAll (uncompared 15 (m + n) 0) one two list
 
-  judged : (t : Bool) → ltb (length list) (3 * (m + n)) ≡ t → cond t scarce told ≡ listedOf p rom list a b
+  judged : (t : Bool) → ltb (length list) (3 * (m + n)) ≡ t → cond t scarce told ≡ listed
   unfolding listedOf
-  judged t e = λ i. cond ((sym e ∙ ap (λ (q : ℕ). ltb (length list) (3 * q)) entries) i) scarce told
+  judged t e =
+      ap (λ (t : Bool). cond t scarce told) (sym e)
+      ∙ (λ i. cond (ltb (length list) (3 * (h i + k i)))
+      (comparedAll (uncompared 15 (h i + k i) 0) one two list)
+      (comparedAll (record { number = 0; place = 0; log = 0; memory = h i; registers = k i; dots = dots }) one two
+      (sets list 0 (numbersOf (differencesFrom 0 one two ++ differencesFrom 0 a b)))))
 
-  pub lists-15 : {x : Compared} → length list < 3 * (m + n) → x ≡ uncompared 15 (m + n) 0 → comparedAll x one two list ≡ listedOf p rom list a b
+  pub lists-15 : {x : Compared} → length list < 3 * (m + n) → x ≡ uncompared 15 (m + n) 0 → comparedAll x one two list ≡ listed
   lists-15 l e =
-      ap (λ (c : Compared). comparedAll c one two list) (e ∙ ap (λ (q : ℕ). uncompared 15 q 0) entries)
-      ∙ judged true (lt-ltb (length list) (3 * (m + n)) l)
+      ap (λ (c : Compared). comparedAll c one two list) e ∙ judged true (lt-ltb (length list) (3 * (m + n)) l)
 
-  pub lists-0 : {l r : List ℕ} {d : ℕ} → 3 * (m + n) ≤ length list → l ≡ sets list 0 (numbersOf (differencesFrom 0 one two))
-      → r ≡ sets l (3 * m) (numbersOf (differencesFrom 0 va vb))
-      → d ≡ dotsApart p (first .registers .display) one (second .registers .display) two rom
-      → comparedAll (record { number = 0; place = 0; log = 0; memory = m; registers = n; dots = d }) one two r ≡ listedOf p rom list a b
-  lists-0 {l} {r} {d} s e q t =
-      (λ i.
-      comparedAll (record { number = 0; place = 0; log = 0; memory = h i; registers = (k ∙ ap length registers-are) i; dots = t i }) one two (behind i))
+  pub lists-0 : {l r : List ℕ} → 3 * (m + n) ≤ length list → l ≡ sets list 0 (numbersOf (differencesFrom 0 one two))
+      → r ≡ sets l (3 * m) (numbersOf (differencesFrom 0 a b))
+      → comparedAll (record { number = 0; place = 0; log = 0; memory = m; registers = n; dots = dots }) one two r ≡ listed
+  lists-0 {l} {r} s e q =
+      ap (comparedAll (record { number = 0; place = 0; log = 0; memory = m; registers = n; dots = dots }) one two) behind
       ∙ judged false (le-ltb (length list) (3 * (m + n)) s)
     where
-      at : 3 * m ≡ 0 + length (numbersOf (memoryApart a b))
-      at = omega (arith, h, numbers-length (memoryApart a b))
+      at : 3 * m ≡ 0 + length (numbersOf (differencesFrom 0 one two))
+      at = omega (arith, h, numbers-length (differencesFrom 0 one two))
 
-      behind : r ≡ sets list 0 (numbersOf (memoryApart a b ++ registersApart a b))
+      behind : r ≡ sets list 0 (numbersOf (differencesFrom 0 one two ++ differencesFrom 0 a b))
       behind =
-          q ∙ (λ i. sets (e i) (at i) (numbersOf (registers-are i)))
-          ∙ sym (sets-append list 0 (numbersOf (memoryApart a b)) (numbersOf (registersApart a b)))
-          ∙ ap (sets list 0) (sym (numbers-append (memoryApart a b) (registersApart a b)))
+          q ∙ (λ i. sets (e i) (at i) (numbersOf (differencesFrom 0 a b)))
+          ∙ sym (sets-append list 0 (numbersOf (differencesFrom 0 one two)) (numbersOf (differencesFrom 0 a b)))
+          ∙ ap (sets list 0) (sym (numbers-append (differencesFrom 0 one two) (differencesFrom 0 a b)))
+
+-- the registers' numbers and the dots, as they are of two machines
+pub lists-both : (list one two : List ℕ) (r q : Registers) {a b : List ℕ} {d e : ℕ} {o : ComparedAll} → a ≡ registerValues r → b ≡ registerValues q → d ≡ e
+    → o ≡ listedOf list one two (differencesFrom 0 one two) (differencesFrom 0 a b) d
+    → o ≡ listedOf list one two (differencesFrom 0 one two) (differencesFrom 0 (registerValues r) (registerValues q)) e
+lists-both list one two r q f g h k = k ∙ (λ i. listedOf list one two (differencesFrom 0 one two) (differencesFrom 0 (f i) (g i)) (h i))
 
 -- log two, by its number
 module _ (p : Panel) (rom list : List ℕ) (x : RanWhole) {y : RanWhole} {ran : Ran} {m : List ℕ} (e : ranWhole ran m ≡ y) where
+  abbrev lists : RanWhole → ComparedAll
+  lists z =
+      listedOf list (x .memory) (z .memory) (memoryApart x z) (registersApart x z)
+      (dotsApart p (x .ran .registers .display) (x .memory) (z .ran .registers .display) (z .memory) rom)
+
   second-by : (t : Bool) → eqb (ran .number) 0 ≡ t
-      → cond t (listedOf p rom list x (ranWhole ran m)) (comparedAll (uncompared (ran .number) (ran .place) 2) (x .memory) m list) ≡ afterTwo p rom list x y
+      → cond t (lists (ranWhole ran m)) (comparedAll (uncompared (ran .number) (ran .place) 2) (x .memory) m list) ≡ afterTwo p rom list x y
   unfolding afterTwo
   second-by t f =
-      (λ i. cond (sym f i) (listedOf p rom list x (ranWhole ran m)) (comparedAll (uncompared (ran .number) (ran .place) 2) (x .memory) m list))
-      ∙ ap (λ (z : RanWhole). cond (eqb (z .ran .number) 0) (listedOf p rom list x z) (comparedAll (uncompared (z .ran .number) (z .ran .place) 2) (x .memory) (z .memory) list)) e
+      (λ i. cond (sym f i) (lists (ranWhole ran m)) (comparedAll (uncompared (ran .number) (ran .place) 2) (x .memory) m list))
+      ∙ ap (λ (z : RanWhole). cond (eqb (z .ran .number) 0) (lists z) (comparedAll (uncompared (z .ran .number) (z .ran .place) 2) (x .memory) (z .memory) list)) e
 
   pub second-refused : {c : Compared} → (ran .number ≡ 0 → ⊥) → c ≡ uncompared (ran .number) (ran .place) 2 → comparedAll c (x .memory) m list ≡ afterTwo p rom list x y
   second-refused z h = ap (λ (c : Compared). comparedAll c (x .memory) m list) h ∙ second-by false (ne-eqb (ran .number) 0 z)
 
-  pub second-lists : {o : ComparedAll} → ran .number ≡ 0 → o ≡ listedOf p rom list x (ranWhole ran m) → o ≡ afterTwo p rom list x y
+  pub second-lists : {o : ComparedAll} → ran .number ≡ 0 → o ≡ lists (ranWhole ran m) → o ≡ afterTwo p rom list x y
   second-lists z h = h ∙ second-by true (eq-eqb (ran .number) 0 z)
 
 -- log one, by its number; the second memory is a copy of the first as it was

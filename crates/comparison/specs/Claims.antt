@@ -1,5 +1,5 @@
 -- 02, Req 06: the list is empty exactly if memory, registers and picture agree.
-use Prim.Native.Nat.{ℕ, _<_}
+use Prim.Native.Nat.{ℕ, _+_, _<_}
 use mathlib.Core.Path.{_≡_}
 use mathlib.Core.Bool.{true}
 use mathlib.Core.List.{List}
@@ -9,9 +9,12 @@ use Rattle.display.specs.Frame.{frameOf}
 use Rattle.comparison.specs.Types.{Panel}
 use Rattle.whole.specs.Whole.{RanWhole}
 use Rattle.comparison.specs.Apart.{dotsApart}
-use Rattle.comparison.specs.Verdict.{entriesOf}
+use Rattle.comparison.specs.Verdict.{memoryApart, registersApart}
 
 -- two machines after their runs
+abbrev pub entriesOf : RanWhole → RanWhole → ℕ
+entriesOf a b = length (memoryApart a b) + length (registersApart a b)
+
 pub record AllAgree (p : Panel) (rom : List ℕ) (a b : RanWhole) : Type 0 where
   pub memory : a .memory ≡ b .memory
   pub registers : a .ran .registers ≡ b .ran .registers

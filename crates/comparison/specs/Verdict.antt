@@ -34,33 +34,24 @@ memoryApart a b = differencesFrom 0 (a .memory) (b .memory)
 abbrev pub registersApart : RanWhole → RanWhole → List Difference
 registersApart a b = differencesFrom 0 (registerValues (a .ran .registers)) (registerValues (b .ran .registers))
 
-abbrev pub entriesOf : RanWhole → RanWhole → ℕ
-entriesOf a b = length (memoryApart a b) + length (registersApart a b)
-
--- every address whose bytes differ, then every register that does, in the list's start; beside it the dots. 15 where it doesn't fit, with
--- the entries needed
-unfoldable pub listedOf : Panel → List ℕ → List ℕ → RanWhole → RanWhole → ComparedAll
-listedOf p rom list a b =
-    cond (ltb (length list) (3 * entriesOf a b))
-    (comparedAll (uncompared 15 (entriesOf a b) 0) (a .memory) (b .memory) list)
+-- both memories, what differs in them and in the registers, and the dots: every entry in the list's start, the dots beside it. 15 where
+-- the list is too short, with the entries needed
+unfoldable pub listedOf : List ℕ → List ℕ → List ℕ → List Difference → List Difference → ℕ → ComparedAll
+listedOf list one two memory registers dots =
+    cond (ltb (length list) (3 * (length memory + length registers)))
+    (comparedAll (uncompared 15 (length memory + length registers) 0) one two list)
     (comparedAll
-    (record {
-      number = 0;
-      place = 0;
-      log = 0;
-      memory = length (memoryApart a b);
-      registers = length (registersApart a b);
-      dots = dotsApart p (a .ran .registers .display) (a .memory) (b .ran .registers .display) (b .memory) rom;
-    })
-    (a .memory)
-    (b .memory)
-    (sets list 0 (numbersOf (memoryApart a b ++ registersApart a b))))
+    (record { number = 0; place = 0; log = 0; memory = length memory; registers = length registers; dots = dots })
+    one
+    two
+    (sets list 0 (numbersOf (memory ++ registers))))
 
--- log two has run in the second memory
+-- log two has run in the second memory: every address whose bytes differ, then every register that does
 unfoldable pub afterTwo : Panel → List ℕ → List ℕ → RanWhole → RanWhole → ComparedAll
 afterTwo p rom list a b =
     cond (eqb (b .ran .number) 0)
-    (listedOf p rom list a b)
+    (listedOf list (a .memory) (b .memory) (memoryApart a b) (registersApart a b)
+    (dotsApart p (a .ran .registers .display) (a .memory) (b .ran .registers .display) (b .memory) rom))
     (comparedAll (uncompared (b .ran .number) (b .ran .place) 2) (a .memory) (b .memory) list)
 
 -- log one has run in the first memory; the second is a copy of it as it was

@@ -5,7 +5,10 @@ ghost use lib.ListN.{length};
 ghost use Rattle.state.specs.State.{validPanel, resetRegisters};
 ghost use Rattle.display.specs.Frame.{lentLengths};
 ghost use Rattle.whole.specs.Whole.{ranWhole, wholeOf};
-ghost use Rattle.comparison.specs.Ready.{Pictured, Paints};
+ghost use Rattle.comparison.specs.Registered.{registerValues};
+ghost use Rattle.comparison.specs.Listed.{differencesFrom};
+ghost use Rattle.comparison.specs.Apart.{dotsApart};
+ghost use Rattle.comparison.specs.Ready.{Alike, Pictured, Paints};
 ghost use Rattle.comparison.specs.Verdict.{uncompared, comparedAll, listedOf, afterTwo, afterOne, compareOf};
 use super::dots::dots;
 use super::list::count_bytes;
@@ -50,42 +53,62 @@ fn copy_bytes(from: &[u8], to: &mut [u8])
     }
 }
 
-// What differs, counted before the list is touched.
-fn list_all(
-    panel: Panel,
-    first: Ran,
-    second: Ran,
+// What differs in memories and registers, counted before the list is touched.
+fn list_entries(
+    a: &[usize],
+    b: &[usize],
     one: &[u8],
     two: &[u8],
-    rom: &[u8],
+    dots: usize,
     list: &mut [usize],
 ) -> Compared
-    requires { ⌜ Pictured panel (first .registers .display) (now one) (second .registers .display) (now two) (now rom) ⌝ }
-    ensures { λ r. ⌜ comparedAll r (now (one .entry)) (now (two .entry)) (now (list .exit)) ≡ listedOf panel (now (rom .entry)) (now (list .entry)) (ranWhole first (now (one .entry))) (ranWhole second (now (two .entry))) ⌝ }
+    requires { ⌜ Alike (now one) (now two) (now a) (now b) ⌝ }
+    ensures { λ r. ⌜ comparedAll r (now (one .entry)) (now (two .entry)) (now (list .exit)) ≡ listedOf (now (list .entry)) (now (one .entry)) (now (two .entry)) (differencesFrom 0 (now (one .entry)) (now (two .entry))) (differencesFrom 0 (now (a .entry)) (now (b .entry))) dots ⌝ }
 {
-    let before = first.registers;
-    let after = second.registers;
-    let a = register_values(before);
-    let b = register_values(after);
     let memory = count_bytes(one, two);
-    let registers = count_values(&a, &b);
+    let registers = count_values(a, b);
     let entries = memory + registers;
     if list.len() < 3 * entries {
         return refused(15, entries, 0);
     }
     list_bytes(one, two, list, 0);
-    list_values(&a, &b, list, 3 * memory);
-    let left = before.display;
-    let right = after.display;
-    let apart = dots(panel, left, right, one, two, rom);
+    list_values(a, b, list, 3 * memory);
     Compared {
         number: 0,
         place: 0,
         log: 0,
         memory,
         registers,
-        dots: apart,
+        dots,
     }
+}
+
+// What differs in two machines.
+fn list_all(
+    panel: Panel,
+    first: Registers,
+    second: Registers,
+    one: &[u8],
+    two: &[u8],
+    rom: &[u8],
+    list: &mut [usize],
+) -> Compared
+    requires { ⌜ Pictured panel (first .display) (now one) (second .display) (now two) (now rom) ⌝ }
+    ensures { λ r. ⌜ comparedAll r (now (one .entry)) (now (two .entry)) (now (list .exit)) ≡ listedOf (now (list .entry)) (now (one .entry)) (now (two .entry)) (differencesFrom 0 (now (one .entry)) (now (two .entry))) (differencesFrom 0 (registerValues first) (registerValues second)) (dotsApart panel (first .display) (now (one .entry)) (second .display) (now (two .entry)) (now (rom .entry))) ⌝ }
+{
+    let left = first.display;
+    let right = second.display;
+    let apart = dots(panel, left, right, one, two, rom);
+    let a = register_values(first);
+    let b = register_values(second);
+    list_entries(&a, &b, one, two, apart, list)
+}
+
+fn run_reset(panel: Panel, mem: &mut [u8], rom: &[u8], log: &[u8]) -> Ran
+    ensures { λ r. ⌜ ranWhole r (now (mem .exit)) ≡ wholeOf panel resetRegisters (now (mem .entry)) (now (rom .entry)) (now (log .entry)) ⌝ }
+{
+    let registers = Registers::reset();
+    run_all(panel, registers, mem, rom, log)
 }
 
 // Log two in the second memory, behind log one.
@@ -102,12 +125,19 @@ fn run_second(
     requires { ⌜ lentLengths (now two) (now rom) ≡ true ⌝ }
     ensures { λ r. ⌜ comparedAll r (now (one .entry)) (now (two .exit)) (now (list .exit)) ≡ afterTwo panel (now (rom .entry)) (now (list .entry)) (ranWhole first (now (one .entry))) (wholeOf panel resetRegisters (now (two .entry)) (now (rom .entry)) (now (log .entry))) ⌝ }
 {
-    let registers = Registers::reset();
-    let second = run_all(panel, registers, two, rom, log);
+    let second = run_reset(panel, two, rom, log);
     if second.number != 0 {
         return refused(second.number, second.place, 2);
     }
-    list_all(panel, first, second, one, two, rom, list)
+    list_all(
+        panel,
+        first.registers,
+        second.registers,
+        one,
+        two,
+        rom,
+        list,
+    )
 }
 
 // Log one in the first memory, of which the second is a copy.
@@ -123,8 +153,7 @@ fn run_both(
     requires { ⌜ (validPanel panel ≡ true) × (lentLengths (now one) (now rom) ≡ true) × (now two ≡ now one) ⌝ }
     ensures { λ r. ⌜ comparedAll r (now (one .exit)) (now (two .exit)) (now (list .exit)) ≡ afterOne panel (now (one .entry)) (now (rom .entry)) (now («log_two» .entry)) (now (list .entry)) (wholeOf panel resetRegisters (now (one .entry)) (now (rom .entry)) (now («log_one» .entry))) ⌝ }
 {
-    let registers = Registers::reset();
-    let first = run_all(panel, registers, one, rom, log_one);
+    let first = run_reset(panel, one, rom, log_one);
     if first.number != 0 {
         return refused(first.number, first.place, 1);
     }

@@ -3,16 +3,13 @@ use mathlib.Core.Path.{ap, _∙_}
 use mathlib.Core.List.{List}
 use Prim.Native.Nat.{ℕ}
 use Rattle.display.specs.Frame.{lentLengths}
-use Rattle.comparison.proofs.Verdicts.{whole-paints, by-reset, first-refused, first-goes}
+use Rattle.comparison.proofs.Verdicts.{whole-paints, first-refused, first-goes}
 use borrow.Author.Needs.{needs}
 use Rattle.comparison.proofs.compare.run_both.Statement.{statement}
 use Rattle.comparison.proofs.compare.run_both.Tie as tie
 
-reset-requires : tie.Need-reset-requires
-reset-requires c κs = search needs
-
-run-all-requires : tie.Need-run-all-requires
-run-all-requires c κs = search needs
+run-reset-requires : tie.Need-run-reset-requires
+run-reset-requires c κs = search needs
 
 refused-requires : tie.Need-refused-requires
 refused-requires c κs = search needs
@@ -22,17 +19,14 @@ same-length c = search needs
 
 returns : tie.Need-returns
 returns c =
-    let s = c .before .before .before .before .before .before .before .before .before .before .before .before .before .before in
-    let a = s .args in
-    first-refused (a .panel) (a .one .now) (a .rom .now) (a .log-two .now) (a .list .now) (s .pre .2) (by-reset (a .panel) (a .one .now) (a .rom .now) (a .log-one .now) (c .before .before .before .before .before .before .before .reset .ensures .0) (c .before .before .before .before .before .run-all .ensures)) (c .before .if1 .taken) (c .refused .ensures)
+    let a = c .before .before .before .before .before .before .before .before .before .before .before .before .before .args in
+    first-refused (a .panel) (a .one .now) (a .rom .now) (a .log-two .now) (a .list .now) (c .before .before .before .before .before .before .before .before .before .before .before .before .before .pre .2) (c .before .before .before .before .before .run-reset .ensures) (c .before .if1 .taken) (c .refused .ensures)
 
 run-second-requires : tie.Need-run-second-requires
 run-second-requires c κs =
-    let s = c .before .before .before .before .before .before .before .before .before .before .before .before .before .before .before .before in
-    let a = s .args in (
-      whole-paints (a .panel) (c .before .before .before .before .before .before .before .before .before .reset .result) (a .one .now) (a .rom .now) (a .log-one .now) (s .pre .0) (c .before .before .before .before .before .before .before .before .before .reset .ensures .1) (s .pre .1) (c .before .before .before .before .before .before .before .run-all .ensures),
-      ap (λ (l : List ℕ). lentLengths l (a .rom .now)) (s .pre .2) ∙ s .pre .1,
-    )
+    let a = c .before .before .before .before .before .before .before .before .before .before .before .before .before .before .before .args in
+    let h = c .before .before .before .before .before .before .before .before .before .before .before .before .before .before .before .pre in
+    (whole-paints (a .panel) (a .one .now) (a .rom .now) (a .log-one .now) (h .0) (h .1) (c .before .before .before .before .before .before .before .run-reset .ensures), ap (λ (l : List ℕ). lentLengths l (a .rom .now)) (h .2) ∙ h .1)
 
 same-length-2 : tie.Need-same-length-2
 same-length-2 c = search needs
@@ -45,16 +39,14 @@ same-length-4 c = search needs
 
 returns-2 : tie.Need-returns-2
 returns-2 c =
-    let s = c .before .before .before .before .before .before .before .before .before .before .before .before .before .before .before .before .before .before .before .before .before in
-    let a = s .args in
-    first-goes (a .panel) (a .one .now) (a .rom .now) (a .log-two .now) (a .list .now) (s .pre .2) (by-reset (a .panel) (a .one .now) (a .rom .now) (a .log-one .now) (c .before .before .before .before .before .before .before .before .before .before .before .before .before .before .reset .ensures .0) (c .before .before .before .before .before .before .before .before .before .before .before .before .run-all .ensures)) (c .before .before .before .before .before .before .before .before .if1 .left) (c .before .before .before .before .run-second .ensures)
+    let a = c .before .before .before .before .before .before .before .before .before .before .before .before .before .before .before .before .before .before .before .before .args in
+    first-goes (a .panel) (a .one .now) (a .rom .now) (a .log-two .now) (a .list .now) (c .before .before .before .before .before .before .before .before .before .before .before .before .before .before .before .before .before .before .before .before .pre .2) (c .before .before .before .before .before .before .before .before .before .before .before .before .run-reset .ensures) (c .before .before .before .before .before .before .before .before .if1 .left) (c .before .before .before .before .run-second .ensures)
 
 pub run-both-spec : {M : Type 1} → statement M
 run-both-spec =
     tie.close
     (tie.spec
-    reset-requires
-    run-all-requires
+    run-reset-requires
     refused-requires
     same-length
     returns

@@ -1,43 +1,45 @@
--- `one_row` meets its contract: a row has at most eighty bytes.
-use mathlib.Core.Path.{sym, _∙_}
-use lib.Seq.{length-take-le}
-use Rattle.state.proofs.Sizes.{is-size}
-use Rattle.comparison.proofs.Aparts.{row-size-few}
+-- `one_row` meets its contract: two rows painted, their dots compared.
+use native.Mathlib.Omega.{arith}
+use Rattle.state.proofs.Sizes.{dots-few}
+use Rattle.comparison.proofs.Aparts.{row-apart, left-paints, right-paints}
 use borrow.Author.Needs.{needs}
 use Rattle.comparison.proofs.dots.one_row.Statement.{statement}
 use Rattle.comparison.proofs.dots.one_row.Tie as tie
 
-row-size-requires : tie.Need-row-size-requires
-row-size-requires c κs = search needs
+painted-row-requires : tie.Need-painted-row-requires
+painted-row-requires c κs = left-paints (c .before .before .before .pre)
 
-array-borrow-prefix-a : tie.Need-array-borrow-prefix-a
-array-borrow-prefix-a c = row-size-few (c .before .before .before .before .args .panel) (c .before .before .before .before .pre .panel) (c .row-size .ensures)
+painted-row-requires-2 : tie.Need-painted-row-requires-2
+painted-row-requires-2 c κs = right-paints (c .before .before .before .before .pre)
 
-slice-aggregate-row-dots : tie.Need-slice-aggregate-row-dots
-slice-aggregate-row-dots c = sym (length-take-le _ _ (row-size-few (c .before .before .before .before .before .args .panel) (c .before .before .before .before .before .pre .panel) (c .before .row-size .ensures)))
+mul-dots : tie.Need-mul-dots
+mul-dots c =
+    omega (arith, dots-few (c .before .before .before .before .before .before .args .panel) (c .before .before .before .before .before .before .pre .panel))
 
-array-borrow-prefix-b : tie.Need-array-borrow-prefix-b
-array-borrow-prefix-b c = row-size-few (c .before .before .before .before .before .args .panel) (c .before .before .before .before .before .pre .panel) (c .before .row-size .ensures)
+slice-aggregate-count-dots : tie.Need-slice-aggregate-count-dots
+slice-aggregate-count-dots c = search needs
 
-slice-aggregate-row-dots-2 : tie.Need-slice-aggregate-row-dots-2
-slice-aggregate-row-dots-2 c = sym (length-take-le _ _ (row-size-few (c .before .before .before .before .before .before .args .panel) (c .before .before .before .before .before .before .pre .panel) (c .before .before .row-size .ensures)))
+slice-aggregate-count-dots-2 : tie.Need-slice-aggregate-count-dots-2
+slice-aggregate-count-dots-2 c = search needs
 
-row-dots-requires : tie.Need-row-dots-requires
-row-dots-requires c κs =
-    let h = row-size-few (c .before .before .before .before .before .before .args .panel) (c .before .before .before .before .before .before .pre .panel) (c .before .before .row-size .ensures) in
-    (c .before .before .before .before .before .before .pre, (length-take-le _ _ h ∙ is-size (c .before .before .before .before .before .before .args .panel) (c .before .before .before .before .before .before .pre .panel) (c .before .before .row-size .ensures), length-take-le _ _ h ∙ is-size (c .before .before .before .before .before .before .args .panel) (c .before .before .before .before .before .before .pre .panel) (c .before .before .row-size .ensures)))
+count-dots-requires : tie.Need-count-dots-requires
+count-dots-requires c κs =
+    let h = dots-few (c .before .before .before .before .before .before .before .before .args .panel) (c .before .before .before .before .before .before .before .before .pre .panel) in
+    (omega (arith, h, c .before .before .before .before .painted-row .ensures .1), omega (arith, h, c .before .before .before .painted-row2 .ensures .1))
 
 returns : tie.Need-returns
-returns c = c .before .before .row-dots .ensures
+returns c =
+    let a = c .before .before .before .before .before .before .before .before .before .args in
+    row-apart (a .panel) (a .first) (a .one .now) (a .second) (a .two .now) (a .rom .now) (a .row) (c .before .before .before .before .before .painted-row .result) (c .before .before .before .before .painted-row2 .result) (c .before .before .before .before .before .painted-row .ensures .0) (c .before .before .before .before .painted-row2 .ensures .0) (c .count-dots .ensures)
 
 pub one-row-spec : {M : Type 1} → statement M
 one-row-spec =
     tie.close
     (tie.spec
-    row-size-requires
-    array-borrow-prefix-a
-    slice-aggregate-row-dots
-    array-borrow-prefix-b
-    slice-aggregate-row-dots-2
-    row-dots-requires
+    painted-row-requires
+    painted-row-requires-2
+    mul-dots
+    slice-aggregate-count-dots
+    slice-aggregate-count-dots-2
+    count-dots-requires
     returns)
