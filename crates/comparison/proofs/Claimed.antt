@@ -14,7 +14,7 @@ use Rattle.display.specs.Frame.{dotOf, frameOf}
 use Rattle.comparison.specs.Types.{Panel, Combination, Or, Exor, And, Attribute, DisplayBits, Display, Auto, Off, Write, Read, Pending, Registers}
 use Rattle.whole.specs.Whole.{RanWhole}
 use Rattle.comparison.specs.Registered.{flagNumber, combinationNumber, autoNumber, bitsNumber, pendingNumber, registerValues}
-use Rattle.comparison.specs.Listed.{Difference, difference, differencesFrom}
+use Rattle.entries.specs.Listed.{Difference, difference, differencesFrom}
 use Rattle.comparison.specs.Apart.{rowApart, dotsApart}
 use Rattle.comparison.specs.Verdict.{memoryApart, registersApart}
 use Rattle.comparison.specs.Claims.{entriesOf, AllAgree, Same}

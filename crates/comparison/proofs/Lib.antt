@@ -1,4 +1,3 @@
-pub mod Listings
 pub mod Aparts
 pub mod Copies
 pub mod Registries

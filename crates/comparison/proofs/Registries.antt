@@ -6,8 +6,8 @@ use native.Mathlib.Omega.{arith}
 use lib.ListN.{length}
 use Rattle.comparison.specs.Types.{Registers}
 use Rattle.comparison.specs.Registered.{flagNumber, combinationNumber, autoNumber, bitsNumber, pendingNumber, registerValues}
-use Rattle.comparison.specs.Listed.{differencesFrom}
-use Rattle.comparison.proofs.Listings.{differences-few}
+use Rattle.entries.specs.Listed.{differencesFrom}
+use Rattle.entries.proofs.Listings.{differences-few}
 
 pub values-are : (r : Registers) {k x s a q e f : ℕ} → k ≡ combinationNumber (r .display .combination) → x ≡ flagNumber (r .display .external)
     → s ≡ bitsNumber (r .display .bits) → a ≡ autoNumber (r .bus .auto) → q ≡ pendingNumber (r .bus .pending) → e ≡ flagNumber (r .bus .error) → f ≡ flagNumber (r .display .phase)

@@ -1,14 +1,13 @@
 -- What each test of a comparison answers, from its parts.
 use mathlib.Core.Path.{_≡_, refl, ap, sym, subst, _∙_}
 use mathlib.Core.Bool.{Bool, true, false, cond, _&&_}
-use mathlib.Core.List.{List, _++_}
+use mathlib.Core.List.{List}
 use Prim.Native.Nat.{ℕ, _+_, _*_, _/_, _%_, _<_, _≤_}
 use native.Mathlib.Omega.{arith}
 use native.Mathlib.Decide.{ℕ-discrete}
-use lib.Dec.{ltb, eqb}
+use lib.Dec.{eqb}
 use lib.ListN.{length, take}
-use lib.Seq.{sets}
-use borrow.Author.Tests.{eqb-true, eq-eqb, ne-eqb, lt-ltb, le-ltb}
+use borrow.Author.Tests.{eqb-true, eq-eqb, ne-eqb}
 use Rattle.ground.specs.Lists.{zeros}
 use Rattle.ground.proofs.Tests.{both, both-left, both-right, settled}
 use Rattle.state.specs.State.{validPanel, validDisplay, validBus, validRegisters, resetRegisters}
@@ -18,17 +17,20 @@ use Rattle.controller.specs.Run.{pairsOf, RanAll, stoppingOf}
 use Rattle.controller.proofs.Laws.{sounds, sounds-valid}
 use Rattle.controller.specs.Ready.{standing}
 use Rattle.controller.proofs.Splitting.{running-kept, inside}
+use Rattle.entries.specs.declared.enter.Entered.{Entered}
+use Rattle.entries.specs.Listed.{differencesFrom}
+use Rattle.entries.specs.Entered.{EnteredAll, enteredAll, enteredOf}
+use Rattle.entries.proofs.Listings.{differences-few}
+use Rattle.entries.proofs.Enterings.{bytes-are, values-are}
 use Rattle.playback.proofs.Parted.{door-8}
 use Rattle.comparison.specs.Types.{Panel, Registers, Ran}
 use Rattle.comparison.specs.declared.compare.Compared.{Compared}
 use Rattle.whole.specs.Whole.{RanWhole, ranWhole, withoutAnswers, wholeOf}
 use Rattle.comparison.specs.Registered.{registerValues}
-use Rattle.comparison.specs.Listed.{Difference, differencesFrom, numbersOf}
 use Rattle.comparison.specs.Apart.{dotsApart}
-use Rattle.comparison.specs.Ready.{Alike, Pictured, Paints}
-use Rattle.comparison.specs.Verdict.{ComparedAll, comparedAll, uncompared, memoryApart, registersApart, listedOf, afterTwo, afterOne, memoriesFit, compareOf}
+use Rattle.comparison.specs.Ready.{Few, Pictured, Paints}
+use Rattle.comparison.specs.Verdict.{ComparedAll, comparedAll, uncompared, memoryApart, registersApart, toldOf, listedOf, afterTwo, afterOne, memoriesFit, compareOf}
 use Rattle.comparison.proofs.Registries.{values-length}
-use Rattle.comparison.proofs.Listings.{differences-few, numbers-append, numbers-length, sets-append}
 
 -- a run from a valid state leaves one, and a memory of its length
 module _ (p : Panel) (r : Registers) (mem rom log : List ℕ) (n : ℕ) (answers : List ℕ) (v : validPanel p ≡ true) (w : validRegisters r ≡ true) (l : lentLengths mem rom ≡ true) where
@@ -62,76 +64,39 @@ pictured a b = record { panel = a .panel; one = a .state; two = b .state; first 
 pub by-reset : (p : Panel) {r : Registers} (mem rom log : List ℕ) {x : RanWhole} → r ≡ resetRegisters → x ≡ wholeOf p r mem rom log → x ≡ wholeOf p resetRegisters mem rom log
 by-reset p mem rom log h e = e ∙ ap (λ (r : Registers). wholeOf p r mem rom log) h
 
--- both memories are 64 KiB, and the registers 17
-pub alike : {p : Panel} (r q : Registers) {mem memory rom a b : List ℕ} → Pictured p (r .display) mem (q .display) memory rom
-    → a ≡ registerValues r → b ≡ registerValues q → Alike mem memory a b
-alike r q {mem} {memory} {rom} k f g =
+-- the entries are few: both memories are 64 KiB, and the registers 17
+pub few : {p : Panel} (r q : Registers) (list b : List ℕ) {mem memory rom a l : List ℕ} {x : Entered} → Pictured p (r .display) mem (q .display) memory rom
+    → a ≡ registerValues r → enteredAll x l ≡ enteredOf list (differencesFrom 0 mem memory) (differencesFrom 0 a b) → Few x
+few r q list b {mem} {memory} {rom} {a} k f e =
     let m = eqb-true (length mem) 65536 (both-left (eqb (length mem) 65536) (eqb (length rom) 1024) (k .first)) in
-    let n = eqb-true (length memory) 65536 (both-left (eqb (length memory) 65536) (eqb (length rom) 1024) (k .second)) in
-    let x = ap length f ∙ values-length r in
-    let y = ap length g ∙ values-length q in
-    record { bytes = m ∙ sym n; memory = omega (arith, m); values = x ∙ sym y; registers = omega (arith, x) }
+    record {
+      bytes = omega (arith, m, differences-few 0 mem memory, bytes-are list (differencesFrom 0 mem memory) (differencesFrom 0 a b) e);
+      values = omega (arith, ap length f ∙ values-length r, differences-few 0 a b, values-are list (differencesFrom 0 mem memory) (differencesFrom 0 a b) e);
+    }
 
--- counted, and then listed or not
-module _ (list one two a b : List ℕ) (dots : ℕ) (o : Alike one two a b) {m n : ℕ} (h : m ≡ length (differencesFrom 0 one two)) (k : n ≡ length (differencesFrom 0 a b)) where
-  pub few-bytes : m ≤ 65536
-  few-bytes = omega (arith, h, differences-few 0 one two, o .memory)
+pub told-listed : (e : Entered) (dots : ℕ) → e .listed ≡ true → record { number = 0; place = 0; log = 0; memory = e .bytes; registers = e .values; dots = dots } ≡ toldOf e dots
+told-listed e dots h =
+    ap (λ (t : Bool). cond t (record { number = 0; place = 0; log = 0; memory = e .bytes; registers = e .values; dots = dots }) (uncompared 15 (e .bytes + e .values) 0)) (sym h)
 
-  pub few-values : n ≤ 17
-  few-values = omega (arith, k, differences-few 0 a b, o .registers)
-
-  abbrev listed : ComparedAll
-  listed = listedOf list one two (differencesFrom 0 one two) (differencesFrom 0 a b) dots
-
-  abbrev told : ComparedAll
-  told =
-      comparedAll (record { number = 0; place = 0; log = 0; memory = m; registers = n; dots = dots }) one two
-      (sets list 0 (numbersOf (differencesFrom 0 one two ++ differencesFrom 0 a b)))
-
-  abbrev scarce : ComparedAll
-  scarce = comparedAll (uncompared 15 (m + n) 0) one two list
-
-  judged : (t : Bool) → ltb (length list) (3 * (m + n)) ≡ t → cond t scarce told ≡ listed
-  unfolding listedOf
-  judged t e =
-      ap (λ (t : Bool). cond t scarce told) (sym e)
-      ∙ (λ i. cond (ltb (length list) (3 * (h i + k i)))
-      (comparedAll (uncompared 15 (h i + k i) 0) one two list)
-      (comparedAll (record { number = 0; place = 0; log = 0; memory = h i; registers = k i; dots = dots }) one two
-      (sets list 0 (numbersOf (differencesFrom 0 one two ++ differencesFrom 0 a b)))))
-
-  pub lists-15 : {x : Compared} → length list < 3 * (m + n) → x ≡ uncompared 15 (m + n) 0 → comparedAll x one two list ≡ listed
-  lists-15 l e =
-      ap (λ (c : Compared). comparedAll c one two list) e ∙ judged true (lt-ltb (length list) (3 * (m + n)) l)
-
-  pub lists-0 : {l r : List ℕ} → 3 * (m + n) ≤ length list → l ≡ sets list 0 (numbersOf (differencesFrom 0 one two))
-      → r ≡ sets l (3 * m) (numbersOf (differencesFrom 0 a b))
-      → comparedAll (record { number = 0; place = 0; log = 0; memory = m; registers = n; dots = dots }) one two r ≡ listed
-  lists-0 {l} {r} s e q =
-      ap (comparedAll (record { number = 0; place = 0; log = 0; memory = m; registers = n; dots = dots }) one two) behind
-      ∙ judged false (le-ltb (length list) (3 * (m + n)) s)
-    where
-      at : 3 * m ≡ 0 + length (numbersOf (differencesFrom 0 one two))
-      at = omega (arith, h, numbers-length (differencesFrom 0 one two))
-
-      behind : r ≡ sets list 0 (numbersOf (differencesFrom 0 one two ++ differencesFrom 0 a b))
-      behind =
-          q ∙ (λ i. sets (e i) (at i) (numbersOf (differencesFrom 0 a b)))
-          ∙ sym (sets-append list 0 (numbersOf (differencesFrom 0 one two)) (numbersOf (differencesFrom 0 a b)))
-          ∙ ap (sets list 0) (sym (numbers-append (differencesFrom 0 one two) (differencesFrom 0 a b)))
+pub told-15 : (e : Entered) (dots : ℕ) {c : Compared} → e .listed ≡ false → c ≡ uncompared 15 (e .bytes + e .values) 0 → c ≡ toldOf e dots
+told-15 e dots h k =
+    k ∙ ap (λ (t : Bool). cond t (record { number = 0; place = 0; log = 0; memory = e .bytes; registers = e .values; dots = dots }) (uncompared 15 (e .bytes + e .values) 0)) (sym h)
 
 -- the registers' numbers and the dots, as they are of two machines
-pub lists-both : (list one two : List ℕ) (r q : Registers) {a b : List ℕ} {d e : ℕ} {o : ComparedAll} → a ≡ registerValues r → b ≡ registerValues q → d ≡ e
-    → o ≡ listedOf list one two (differencesFrom 0 one two) (differencesFrom 0 a b) d
-    → o ≡ listedOf list one two (differencesFrom 0 one two) (differencesFrom 0 (registerValues r) (registerValues q)) e
-lists-both list one two r q f g h k = k ∙ (λ i. listedOf list one two (differencesFrom 0 one two) (differencesFrom 0 (f i) (g i)) (h i))
+pub lists-both : (list one two : List ℕ) (r q : Registers) (d : ℕ) {a b l : List ℕ} {x : Entered} {y : Compared} {c : ℕ} → a ≡ registerValues r → b ≡ registerValues q → c ≡ d
+    → enteredAll x l ≡ enteredOf list (differencesFrom 0 one two) (differencesFrom 0 a b) → y ≡ toldOf x c
+    → comparedAll y one two l ≡ listedOf one two d (enteredOf list (differencesFrom 0 one two) (differencesFrom 0 (registerValues r) (registerValues q)))
+lists-both list one two r q d {l = l} {x} f g h e t =
+    ap (λ (z : Compared). comparedAll z one two l) t
+    ∙ ap (λ (n : ℕ). listedOf one two n (enteredAll x l)) h
+    ∙ ap (listedOf one two d) (e ∙ (λ i. enteredOf list (differencesFrom 0 one two) (differencesFrom 0 (f i) (g i))))
 
 -- log two, by its number
 module _ (p : Panel) (rom list : List ℕ) (x : RanWhole) {y : RanWhole} {ran : Ran} {m : List ℕ} (e : ranWhole ran m ≡ y) where
   abbrev lists : RanWhole → ComparedAll
   lists z =
-      listedOf list (x .memory) (z .memory) (memoryApart x z) (registersApart x z)
-      (dotsApart p (x .ran .registers .display) (x .memory) (z .ran .registers .display) (z .memory) rom)
+      listedOf (x .memory) (z .memory) (dotsApart p (x .ran .registers .display) (x .memory) (z .ran .registers .display) (z .memory) rom)
+      (enteredOf list (memoryApart x z) (registersApart x z))
 
   second-by : (t : Bool) → eqb (ran .number) 0 ≡ t
       → cond t (lists (ranWhole ran m)) (comparedAll (uncompared (ran .number) (ran .place) 2) (x .memory) m list) ≡ afterTwo p rom list x y

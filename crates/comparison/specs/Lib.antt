@@ -1,6 +1,5 @@
 pub mod Types
 pub mod Registered
-pub mod Listed
 pub mod Apart
 pub mod Verdict
 pub mod Ready

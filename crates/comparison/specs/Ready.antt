@@ -3,17 +3,15 @@ use mathlib.Core.Path.{_≡_}
 use mathlib.Core.Bool.{true}
 use mathlib.Core.List.{List}
 use Prim.Native.Nat.{ℕ, _≤_}
-use lib.ListN.{length}
 use Rattle.state.specs.State.{validPanel, validDisplay}
 use Rattle.display.specs.Frame.{lentLengths}
+use Rattle.entries.specs.declared.enter.Entered.{Entered}
 use Rattle.comparison.specs.Types.{Panel, Display}
 
--- two memories of one length, and two machines' registers, so few that their entries can be counted
-pub record Alike (one two a b : List ℕ) : Type 0 where
-  pub bytes : length one ≡ length two
-  pub memory : length one ≤ 65536
-  pub values : length a ≡ length b
-  pub registers : length a ≤ 17
+-- few enough entries to be added up
+pub record Few (e : Entered) : Type 0 where
+  pub bytes : e .bytes ≤ 65536
+  pub values : e .values ≤ 17
 
 -- two pictures on one panel
 pub record Pictured (p : Panel) (d : Display) (mem : List ℕ) (e : Display) (memory rom : List ℕ) : Type 0 where

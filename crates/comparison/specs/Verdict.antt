@@ -1,16 +1,17 @@
 -- 02, Req 06: two logs from the same panel, memory and ROM, both from reset.
-use Prim.Native.Nat.{ℕ, _+_, _*_}
+use Prim.Native.Nat.{ℕ, _+_}
 use mathlib.Core.Bool.{Bool, cond, _&&_}
-use mathlib.Core.List.{List, _++_}
-use lib.Dec.{ltb, eqb}
+use mathlib.Core.List.{List}
+use lib.Dec.{eqb}
 use lib.ListN.{length}
-use lib.Seq.{sets}
 use Rattle.state.specs.State.{validPanel, resetRegisters}
+use Rattle.entries.specs.declared.enter.Entered.{Entered}
+use Rattle.entries.specs.Listed.{Difference, differencesFrom}
+use Rattle.entries.specs.Entered.{EnteredAll, enteredOf}
 use Rattle.comparison.specs.Types.{Panel, Registers}
 use Rattle.comparison.specs.declared.compare.Compared.{Compared}
 use Rattle.whole.specs.Whole.{RanWhole, wholeOf}
 use Rattle.comparison.specs.Registered.{registerValues}
-use Rattle.comparison.specs.Listed.{Difference, differencesFrom, numbersOf}
 use Rattle.comparison.specs.Apart.{dotsApart}
 
 -- a reply, both memories and the list then
@@ -34,24 +35,22 @@ memoryApart a b = differencesFrom 0 (a .memory) (b .memory)
 abbrev pub registersApart : RanWhole → RanWhole → List Difference
 registersApart a b = differencesFrom 0 (registerValues (a .ran .registers)) (registerValues (b .ran .registers))
 
--- both memories, what differs in them and in the registers, and the dots: every entry in the list's start, the dots beside it. 15 where
--- the list is too short, with the entries needed
-unfoldable pub listedOf : List ℕ → List ℕ → List ℕ → List Difference → List Difference → ℕ → ComparedAll
-listedOf list one two memory registers dots =
-    cond (ltb (length list) (3 * (length memory + length registers)))
-    (comparedAll (uncompared 15 (length memory + length registers) 0) one two list)
-    (comparedAll
-    (record { number = 0; place = 0; log = 0; memory = length memory; registers = length registers; dots = dots })
-    one
-    two
-    (sets list 0 (numbersOf (memory ++ registers))))
+-- what was entered in the list, and the dots beside it; 15 where the list is too short, with the entries needed
+abbrev pub toldOf : Entered → ℕ → Compared
+toldOf e dots =
+    cond (e .listed)
+    (record { number = 0; place = 0; log = 0; memory = e .bytes; registers = e .values; dots = dots })
+    (uncompared 15 (e .bytes + e .values) 0)
+
+abbrev pub listedOf : List ℕ → List ℕ → ℕ → EnteredAll → ComparedAll
+listedOf one two dots x = comparedAll (toldOf (x .entered) dots) one two (x .list)
 
 -- log two has run in the second memory: every address whose bytes differ, then every register that does
 unfoldable pub afterTwo : Panel → List ℕ → List ℕ → RanWhole → RanWhole → ComparedAll
 afterTwo p rom list a b =
     cond (eqb (b .ran .number) 0)
-    (listedOf list (a .memory) (b .memory) (memoryApart a b) (registersApart a b)
-    (dotsApart p (a .ran .registers .display) (a .memory) (b .ran .registers .display) (b .memory) rom))
+    (listedOf (a .memory) (b .memory) (dotsApart p (a .ran .registers .display) (a .memory) (b .ran .registers .display) (b .memory) rom)
+    (enteredOf list (memoryApart a b) (registersApart a b)))
     (comparedAll (uncompared (b .ran .number) (b .ran .place) 2) (a .memory) (b .memory) list)
 
 -- log one has run in the first memory; the second is a copy of it as it was

@@ -4,19 +4,18 @@ ghost use mathlib.Core.Bool.{true};
 ghost use lib.ListN.{length};
 ghost use Rattle.state.specs.State.{validPanel, resetRegisters};
 ghost use Rattle.display.specs.Frame.{lentLengths};
+ghost use Rattle.entries.specs.Listed.{differencesFrom};
+ghost use Rattle.entries.specs.Entered.{enteredOf};
 ghost use Rattle.whole.specs.Whole.{ranWhole, wholeOf};
 ghost use Rattle.comparison.specs.Registered.{registerValues};
-ghost use Rattle.comparison.specs.Listed.{differencesFrom};
 ghost use Rattle.comparison.specs.Apart.{dotsApart};
-ghost use Rattle.comparison.specs.Ready.{Alike, Pictured, Paints};
-ghost use Rattle.comparison.specs.Verdict.{uncompared, comparedAll, listedOf, afterTwo, afterOne, compareOf};
+ghost use Rattle.comparison.specs.Ready.{Few, Pictured, Paints};
+ghost use Rattle.comparison.specs.Verdict.{uncompared, comparedAll, toldOf, listedOf, afterTwo, afterOne, compareOf};
 use super::dots::dots;
-use super::list::count_bytes;
-use super::list::count_values;
-use super::list::list_bytes;
-use super::list::list_values;
 use super::values::register_values;
 use controller::run::Ran;
+use entries::enter::Entered;
+use entries::enter::enter;
 use state::panel::Panel;
 use state::registers::Registers;
 use whole::all::run_all;
@@ -53,34 +52,22 @@ fn copy_bytes(from: &[u8], to: &mut [u8])
     }
 }
 
-// What differs in memories and registers, counted before the list is touched.
-fn list_entries(
-    a: &[usize],
-    b: &[usize],
-    one: &[u8],
-    two: &[u8],
-    dots: usize,
-    list: &mut [usize],
-) -> Compared
-    requires { ⌜ Alike (now one) (now two) (now a) (now b) ⌝ }
-    ensures { λ r. ⌜ comparedAll r (now (one .entry)) (now (two .entry)) (now (list .exit)) ≡ listedOf (now (list .entry)) (now (one .entry)) (now (two .entry)) (differencesFrom 0 (now (one .entry)) (now (two .entry))) (differencesFrom 0 (now (a .entry)) (now (b .entry))) dots ⌝ }
+// 15 with the entries needed, where the list is too short for them.
+fn told(entered: Entered, dots: usize) -> Compared
+    requires { ⌜ Few entered ⌝ }
+    ensures { λ r. ⌜ r ≡ toldOf entered dots ⌝ }
 {
-    let memory = count_bytes(one, two);
-    let registers = count_values(a, b);
-    let entries = memory + registers;
-    if list.len() < 3 * entries {
-        return refused(15, entries, 0);
+    if entered.listed {
+        return Compared {
+            number: 0,
+            place: 0,
+            log: 0,
+            memory: entered.bytes,
+            registers: entered.values,
+            dots,
+        };
     }
-    list_bytes(one, two, list, 0);
-    list_values(a, b, list, 3 * memory);
-    Compared {
-        number: 0,
-        place: 0,
-        log: 0,
-        memory,
-        registers,
-        dots,
-    }
+    refused(15, entered.bytes + entered.values, 0)
 }
 
 // What differs in two machines.
@@ -94,16 +81,18 @@ fn list_all(
     list: &mut [usize],
 ) -> Compared
     requires { ⌜ Pictured panel (first .display) (now one) (second .display) (now two) (now rom) ⌝ }
-    ensures { λ r. ⌜ comparedAll r (now (one .entry)) (now (two .entry)) (now (list .exit)) ≡ listedOf (now (list .entry)) (now (one .entry)) (now (two .entry)) (differencesFrom 0 (now (one .entry)) (now (two .entry))) (differencesFrom 0 (registerValues first) (registerValues second)) (dotsApart panel (first .display) (now (one .entry)) (second .display) (now (two .entry)) (now (rom .entry))) ⌝ }
+    ensures { λ r. ⌜ comparedAll r (now (one .entry)) (now (two .entry)) (now (list .exit)) ≡ listedOf (now (one .entry)) (now (two .entry)) (dotsApart panel (first .display) (now (one .entry)) (second .display) (now (two .entry)) (now (rom .entry))) (enteredOf (now (list .entry)) (differencesFrom 0 (now (one .entry)) (now (two .entry))) (differencesFrom 0 (registerValues first) (registerValues second))) ⌝ }
 {
     let left = first.display;
     let right = second.display;
     let apart = dots(panel, left, right, one, two, rom);
     let a = register_values(first);
     let b = register_values(second);
-    list_entries(&a, &b, one, two, apart, list)
+    let entered = enter(one, two, &a, &b, list);
+    told(entered, apart)
 }
 
+// A log from reset.
 fn run_reset(panel: Panel, mem: &mut [u8], rom: &[u8], log: &[u8]) -> Ran
     ensures { λ r. ⌜ ranWhole r (now (mem .exit)) ≡ wholeOf panel resetRegisters (now (mem .entry)) (now (rom .entry)) (now (log .entry)) ⌝ }
 {

@@ -9,9 +9,8 @@ ghost use Rattle.state.specs.Sizes.{rowSize};
 ghost use Rattle.display.specs.Frame.{rowOf};
 ghost use Rattle.comparison.specs.Apart.{howMany, rowApart, dotsApart};
 ghost use Rattle.comparison.specs.Ready.{Pictured, Paints};
-use super::list::differ;
-use super::list::wide;
 use display::frame::paint_one;
+use entries::list::differ;
 use ground::bytes::bit;
 use state::panel::Panel;
 use state::registers::Display;
@@ -20,7 +19,7 @@ fn dot(row: &[u8], x: usize) -> usize
     requires { ⌜ x / 8 < length (now row) ⌝ }
     ensures { λ r. ⌜ r ≡ bitOf (getD (now (row .entry)) (x / 8) 0) (7 - x % 8) ⌝ }
 {
-    wide(bit(row[x / 8], 7 - x % 8))
+    bit(row[x / 8], 7 - x % 8) as usize
 }
 
 // Of two rows' first dots.

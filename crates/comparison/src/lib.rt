@@ -1,5 +1,4 @@
 // Two logs side by side: what differs when both have run.
 pub mod compare;
 mod dots;
-mod list;
 pub mod values;

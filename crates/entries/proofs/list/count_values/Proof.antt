@@ -3,10 +3,10 @@ use mathlib.Core.Path.{refl}
 use Prim.Native.Nat.{_-_}
 use native.Mathlib.Omega.{arith}
 use lib.ListN.{length}
-use Rattle.comparison.proofs.Listings.{Counting, counting, counts-on, counted-all}
+use Rattle.entries.proofs.Listings.{Counting, counting, counts-on, counted-all}
 use borrow.Author.Needs.{needs}
-use Rattle.comparison.proofs.list.count_values.Statement.{statement}
-use Rattle.comparison.proofs.list.count_values.Tie as tie
+use Rattle.entries.proofs.list.count_values.Statement.{statement}
+use Rattle.entries.proofs.list.count_values.Tie as tie
 
 abbrev Inv-loop : tie.InvT-loop
 Inv-loop one two count₀ i₀ i-end count i = Counting one two count i

@@ -6,7 +6,7 @@ ghost use Prim.Native.Nat.{_+_, _*_, _≤_};
 ghost use lib.Dec.{eqb};
 ghost use lib.ListN.{length};
 ghost use lib.Seq.{sets};
-ghost use Rattle.comparison.specs.Listed.{differencesFrom, numbersOf};
+ghost use Rattle.entries.specs.Listed.{differencesFrom, numbersOf};
 
 pub(crate) fn wide(byte: u8) -> usize
     ensures { λ r. ⌜ r ≡ byte ⌝ }
@@ -14,7 +14,7 @@ pub(crate) fn wide(byte: u8) -> usize
     byte as usize
 }
 
-pub(crate) fn differ(one: usize, two: usize) -> usize
+pub fn differ(one: usize, two: usize) -> usize
     ensures { λ r. ⌜ r ≡ cond (eqb one two) 0 1 ⌝ }
     ensures { λ r. ⌜ r ≤ 1 ⌝ }
 {

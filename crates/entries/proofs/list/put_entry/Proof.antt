@@ -4,8 +4,8 @@ use Prim.Native.Nat.{suc, _+_}
 use native.Mathlib.Omega.{arith}
 use lib.ListN.{set, length-set}
 use borrow.Author.Needs.{needs}
-use Rattle.comparison.proofs.list.put_entry.Statement.{statement}
-use Rattle.comparison.proofs.list.put_entry.Tie as tie
+use Rattle.entries.proofs.list.put_entry.Statement.{statement}
+use Rattle.entries.proofs.list.put_entry.Tie as tie
 
 mul-list : tie.Need-mul-list
 mul-list c = search needs

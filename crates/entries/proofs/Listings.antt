@@ -9,7 +9,7 @@ use lib.Dec.{eqb}
 use lib.ListN.{length, getD, drop, set, drop-of-length-le}
 use lib.Seq.{drop-cons, sets, length-sets}
 use borrow.Author.Tests.{eq-eqb, ne-eqb}
-use Rattle.comparison.specs.Listed.{Difference, difference, differencesFrom, numbersOf}
+use Rattle.entries.specs.Listed.{Difference, difference, differencesFrom, numbersOf}
 
 pub differences-few : (i : ℕ) (xs ys : List ℕ) → length (differencesFrom i xs ys) ≤ length xs
 unfolding differencesFrom

@@ -3,10 +3,10 @@ use mathlib.Core.Path.{_≡_, refl, ap, sym, _∙_}
 use Prim.Native.Nat.{_-_}
 use native.Mathlib.Omega.{arith}
 use lib.ListN.{length}
-use Rattle.comparison.proofs.Listings.{Listing, listing, lists-over, entry-room, lists-entry, listed-all}
+use Rattle.entries.proofs.Listings.{Listing, listing, lists-over, entry-room, lists-entry, listed-all}
 use borrow.Author.Needs.{needs}
-use Rattle.comparison.proofs.list.list_values.Statement.{statement}
-use Rattle.comparison.proofs.list.list_values.Tie as tie
+use Rattle.entries.proofs.list.list_values.Statement.{statement}
+use Rattle.entries.proofs.list.list_values.Tie as tie
 
 abbrev Inv-loop : tie.InvT-loop
 Inv-loop one two list₀ from at₀ i₀ list at i = Listing one two list₀ from list at i

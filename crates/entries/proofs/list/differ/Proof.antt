@@ -2,8 +2,8 @@
 use mathlib.Core.Path.{ap, sym}
 use borrow.Author.Tests.{eq-eqb, ne-eqb}
 use borrow.Author.Needs.{needs}
-use Rattle.comparison.proofs.list.differ.Statement.{statement}
-use Rattle.comparison.proofs.list.differ.Tie as tie
+use Rattle.entries.proofs.list.differ.Statement.{statement}
+use Rattle.entries.proofs.list.differ.Tie as tie
 
 returns : tie.Need-returns
 returns c = (simp (eq-eqb _ _ (c .if1 .taken)), search needs)
