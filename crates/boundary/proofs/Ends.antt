@@ -17,8 +17,9 @@ use Rattle.controller.specs.Access.{Pair, replied, accessOf}
 use Rattle.controller.specs.Run.{ranAll, stoppingOf}
 use Rattle.controller.specs.Skip.{ranOnAll, runOf}
 use Rattle.boundary.specs.Types.{Panel, Registers, Acted, Ran, RanOn, Reply, Entry, State, Refused}
-use Rattle.boundary.specs.Image.{bytesOf}
-use Rattle.boundary.specs.Door.{doorOf, keptOf, countsOf, countsOnOf}
+use Rattle.image.specs.Image.{bytesOf, replaced}
+use Rattle.image.specs.Door.{doorOf, keptOf, countsOf, countsOnOf}
+use Rattle.image.proofs.Images.{bytes-length, replaced-same}
 use Rattle.boundary.specs.Exports.{AccessEnd, accessEnd, accessDone, accessBy, accessBytes, RunEnd, runEnd, stoppingDone, stoppingBy, stoppingBytes, RunOnEnd, runOnEnd, runOnDone, runOnBy, runOnBytes, PaintEnd, paintEnd, paintDone, paintBy, paintBytes, layersWord, layersDone, layersBy, layersBytes, ResetEnd, resetEnd, resetBytes}
 
 module _ (p : Panel) (b mem rom : List ℕ) (q : Pair) {x : Entry} (h : x ≡ doorOf p true b) where
@@ -91,8 +92,8 @@ module _ (b : List ℕ) where
   pub reset-refused : (length b ≡ 25 → ⊥) → resetEnd 2 b ≡ resetBytes b
   reset-refused e = reset-by false (ne-eqb (length b) 25 e)
 
-  pub reset-done : {r : Registers} {l : List ℕ} → length b ≡ 25 → r ≡ resetRegisters → l ≡ bytesOf r → resetEnd 0 l ≡ resetBytes b
-  reset-done e h k = ap (resetEnd 0) (k ∙ ap bytesOf h) ∙ reset-by true (eq-eqb (length b) 25 e)
+  pub reset-done : {r : Registers} {l : List ℕ} → length b ≡ 25 → r ≡ resetRegisters → l ≡ replaced (bytesOf r) b → resetEnd 0 l ≡ resetBytes b
+  reset-done {r} e h k = ap (resetEnd 0) (k ∙ sym (replaced-same (bytesOf r) b (e ∙ sym (bytes-length r))) ∙ ap bytesOf h) ∙ reset-by true (eq-eqb (length b) 25 e)
 
 -- two replies that meet a promise are equal
 pub access-settled : {v w : ℕ} {b c m n : List ℕ} (p : Panel) (bytes mem rom : List ℕ) (q : Pair)

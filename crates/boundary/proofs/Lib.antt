@@ -1,5 +1,2 @@
-pub mod Doors
 pub mod Ends
-pub mod Images
 pub mod Refusals
-pub mod Followings

@@ -1,6 +1,6 @@
 -- What a refusal leaves: on 1 and 2 every buffer, on a refused access and a refused frame too.
 use mathlib.Core.Path.{_≡_, refl, ap, sym, _∙_}
-use mathlib.Core.Bool.{Bool, true, false, cond, _&&_, _||_, false≢true}
+use mathlib.Core.Bool.{true, false, _&&_, _||_, false≢true}
 use mathlib.Core.List.{List, [], _∷_}
 use mathlib.Core.Logic.{_⊎_, inl, inr}
 use Prim.Native.Nat.{ℕ, suc, _+_, _*_, _%_, _<_}
@@ -18,11 +18,11 @@ use Rattle.effects.specs.Machine.{Machine, machine}
 use Rattle.controller.specs.Run.{pairsOf, Standing, Turn, went, halted, turnOf, short, afterTurn, runFrom, endNumber, RanAll, stoppingOf}
 use Rattle.controller.specs.Skip.{Skipping, skipBy, skipStep, begunOn, RanOnAll, eitherRun, runOf}
 use Rattle.boundary.specs.Types.{Panel, Registers, Entry, State, Refused}
-use Rattle.boundary.specs.Image.{bytesOf}
-use Rattle.boundary.specs.Door.{doorOf, closes, keptOf}
+use Rattle.image.specs.Image.{bytesOf}
+use Rattle.image.specs.Door.{doorOf, closes, keptOf}
 use Rattle.boundary.specs.Exports.{accessBy, accessBytes, RunEnd, stoppingDone, stoppingBy, stoppingBytes, RunOnEnd, runOnDone, runOnBy, runOnBytes, paintBy, paintBytes}
-use Rattle.boundary.proofs.Doors.{entered-length, entered-readable, entered-state}
-use Rattle.boundary.proofs.Images.{bytes-back}
+use Rattle.image.proofs.Doors.{entered-length, entered-readable, entered-state, written-closed}
+use Rattle.image.proofs.Images.{bytes-back}
 
 -- an access that is refused gives the registers and the memory that it got
 module _ (p : Panel) (r : Registers) (mem rom : List ℕ) (q : Pair) where
@@ -45,9 +45,11 @@ module _ (p : Panel) (r : Registers) (mem rom : List ℕ) (q : Pair) where
 module _ (p : Panel) (b mem rom : List ℕ) (q : Pair) (h : (i : ℕ) → getD b i 0 < 256) where
   -- the registers buffer after a refused access, written back or not
   kept : {x : Entry} {r s : Registers} (n : ℕ) → x ≡ doorOf p true b → x ≡ State r → s ≡ r → keptOf n s b ≡ b
-  kept n e k f =
+  kept {s = s} n e k f =
       cond-has (λ (l : List ℕ). l ≡ b) (closes n) refl
+      (cond-has (λ (l : List ℕ). l ≡ b) (eqb (length b) (length (bytesOf s)))
       (ap bytesOf (f ∙ sym (entered-state p true b e k)) ∙ bytes-back b (entered-length p true b e k) (entered-readable p true b e k) h)
+      refl)
 
   -- a number but 0 leaves registers and memory
   pub access-untouched : (accessBytes p b mem rom q .result % 256 ≡ 0 → ⊥)
@@ -165,10 +167,10 @@ module _ (p : Panel) (b mem rom log : List ℕ) (limit : ℕ) (answers k : List 
       of : (o : RanAll) → Stays o → closes (o .ran .number) ≡ true → RunStays (stoppingDone b k o)
       of o s e =
           record {
-            registers = ap (λ (t : Bool). cond t b (bytesOf (o .ran .registers))) e;
+            registers = sym (written-closed (o .ran .number) (bytesOf (o .ran .registers)) b e);
             memory = s e .0;
             answered = s e .1;
-            counts = ap (λ (t : Bool). cond t k (o .ran .place ∷ o .ran .taken ∷ o .ran .answers ∷ [])) e;
+            counts = sym (written-closed (o .ran .number) (o .ran .place ∷ o .ran .taken ∷ o .ran .answers ∷ []) k e);
           }
 
       go : (x : Entry) → closes (stoppingBy x p b mem rom log limit answers k .number) ≡ true → RunStays (stoppingBy x p b mem rom log limit answers k)
@@ -205,11 +207,11 @@ module _ (p : Panel) (b mem rom log : List ℕ) (limit : ℕ) (answers skips k :
       of : (o : RanOnAll) → StaysOn o → closes (o .all .ran .number) ≡ true → RunOnStays (runOnDone b k o)
       of o s e =
           record {
-            registers = ap (λ (t : Bool). cond t b (bytesOf (o .all .ran .registers))) e;
+            registers = sym (written-closed (o .all .ran .number) (bytesOf (o .all .ran .registers)) b e);
             memory = s e .0;
             answered = s e .1;
             listed = s e .2;
-            counts = ap (λ (t : Bool). cond t k (o .all .ran .place ∷ o .all .ran .taken ∷ o .all .ran .answers ∷ o .skipped ∷ [])) e;
+            counts = sym (written-closed (o .all .ran .number) (o .all .ran .place ∷ o .all .ran .taken ∷ o .all .ran .answers ∷ o .skipped ∷ []) k e);
           }
 
       go : (x : Entry) → closes (runOnBy x p b mem rom log limit answers skips k .number) ≡ true → RunOnStays (runOnBy x p b mem rom log limit answers skips k)

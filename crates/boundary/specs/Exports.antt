@@ -13,8 +13,8 @@ use Rattle.controller.specs.Access.{Pair, Accessed, accessOf}
 use Rattle.controller.specs.Run.{RanAll, stoppingOf}
 use Rattle.controller.specs.Skip.{RanOnAll, runOf}
 use Rattle.boundary.specs.Types.{Panel, Entry, State, Refused}
-use Rattle.boundary.specs.Image.{bytesOf}
-use Rattle.boundary.specs.Door.{doorOf, keptOf, countsOf, countsOnOf}
+use Rattle.image.specs.Image.{bytesOf}
+use Rattle.image.specs.Door.{doorOf, keptOf, countsOf, countsOnOf}
 
 -- an access
 pub record AccessEnd : Type 0 where

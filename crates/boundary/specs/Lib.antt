@@ -1,5 +1,2 @@
 pub mod Types
-pub mod Image
-pub mod Door
 pub mod Exports
-pub mod Following

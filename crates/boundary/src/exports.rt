@@ -1,19 +1,19 @@
 // The functions that C calls: every input gets a reply.
 ghost use mathlib.Core.Path.{_≡_};
-ghost use Rattle.boundary.specs.Door.{panelOf};
+ghost use Rattle.image.specs.Door.{panelOf};
 ghost use Rattle.boundary.specs.Exports.{accessEnd, accessBytes, runEnd, stoppingBytes, paintEnd, paintBytes, layersWord, layersBytes, resetEnd, resetBytes, runOnEnd, runOnBytes};
-use super::door::Entry;
-use super::door::count;
-use super::door::count_on;
-use super::door::enter;
-use super::door::keep;
-use super::door::marked;
-use super::image::encode;
 use controller::run::run;
 use controller::run::run_stopping;
 use display::frame::paint;
 use display::seen::layers;
 use ground::bytes::word;
+use image::door::Entry;
+use image::door::count;
+use image::door::count_on;
+use image::door::enter;
+use image::door::keep;
+use image::door::marked;
+use image::image::encode;
 use single::access::access;
 use state::registers::Registers;
 

@@ -1,5 +1,4 @@
 pub mod Aparts
 pub mod Copies
-pub mod Registries
 pub mod Verdicts
 pub mod Claimed

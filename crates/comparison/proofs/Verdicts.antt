@@ -26,11 +26,11 @@ use Rattle.playback.proofs.Parted.{door-8}
 use Rattle.comparison.specs.Types.{Panel, Registers, Ran}
 use Rattle.comparison.specs.declared.compare.Compared.{Compared}
 use Rattle.whole.specs.Whole.{RanWhole, ranWhole, withoutAnswers, wholeOf}
-use Rattle.comparison.specs.Registered.{registerValues}
+use Rattle.image.specs.Registered.{registerValues}
 use Rattle.comparison.specs.Apart.{dotsApart}
 use Rattle.comparison.specs.Ready.{Few, Pictured, Paints}
 use Rattle.comparison.specs.Verdict.{ComparedAll, comparedAll, uncompared, memoryApart, registersApart, toldOf, listedOf, afterTwo, afterOne, memoriesFit, compareOf}
-use Rattle.comparison.proofs.Registries.{values-length}
+use Rattle.image.proofs.Registries.{values-length}
 
 -- a run from a valid state leaves one, and a memory of its length
 module _ (p : Panel) (r : Registers) (mem rom log : List ℕ) (n : ℕ) (answers : List ℕ) (v : validPanel p ≡ true) (w : validRegisters r ≡ true) (l : lentLengths mem rom ≡ true) where

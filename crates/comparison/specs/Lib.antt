@@ -1,5 +1,4 @@
 pub mod Types
-pub mod Registered
 pub mod Apart
 pub mod Verdict
 pub mod Ready

@@ -11,7 +11,7 @@ use Rattle.entries.specs.Entered.{EnteredAll, enteredOf}
 use Rattle.comparison.specs.Types.{Panel, Registers}
 use Rattle.comparison.specs.declared.compare.Compared.{Compared}
 use Rattle.whole.specs.Whole.{RanWhole, wholeOf}
-use Rattle.comparison.specs.Registered.{registerValues}
+use Rattle.image.specs.Registered.{registerValues}
 use Rattle.comparison.specs.Apart.{dotsApart}
 
 -- a reply, both memories and the list then

@@ -1,4 +1,3 @@
 // Two logs side by side: what differs when both have run.
 pub mod compare;
 mod dots;
-pub mod values;

@@ -1,9 +1,7 @@
 -- `t6963c_access` meets its contract: past the door, the access, and the registers written back.
-use mathlib.Core.Bool.{true}
 use mathlib.Core.Path.{ap, _∙_}
 use Rattle.boundary.specs.Types.{Panel}
 use Rattle.boundary.specs.Exports.{accessBytes}
-use Rattle.boundary.proofs.Doors.{entered-length}
 use Rattle.boundary.proofs.Ends.{access-refused, access-done}
 use borrow.Author.Needs.{needs}
 use Rattle.boundary.proofs.exports.t6963c_access.Statement.{statement}
@@ -22,9 +20,7 @@ access-requires : tie.Need-access-requires
 access-requires c κs = search needs
 
 keep-requires : tie.Need-keep-requires
-keep-requires c κs =
-    let s = c .before .before .before .before .before .before .before .before .before .before .before .before .before .before .before .args in
-    entered-length (c .before .before .before .before .before .before .before .before .before .before .before .marked .result) true (s .registers .now) (c .before .before .before .before .before .before .before .before .before .enter .ensures) (c .before .before .before .before .before .before .before .state .given .1)
+keep-requires c κs = search needs
 
 word-requires : tie.Need-word-requires
 word-requires c κs = search needs

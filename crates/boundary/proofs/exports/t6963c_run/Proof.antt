@@ -1,11 +1,7 @@
 -- `t6963c_run` meets its contract: past the door, the run, and registers and counts written back.
-use lib.Dec.{eqb}
-use lib.ListN.{length}
-use borrow.Author.Tests.{eqb-true}
 use mathlib.Core.Path.{ap, _∙_}
 use Rattle.boundary.specs.Types.{Panel}
 use Rattle.boundary.specs.Exports.{runOnBytes}
-use Rattle.boundary.proofs.Doors.{entered-length, entered-lent}
 use Rattle.boundary.proofs.Ends.{run-refused, run-done}
 use borrow.Author.Needs.{needs}
 use Rattle.boundary.proofs.exports.t6963c_run.Statement.{statement}
@@ -24,14 +20,10 @@ run-requires : tie.Need-run-requires
 run-requires c κs = search needs
 
 keep-requires : tie.Need-keep-requires
-keep-requires c κs =
-    let s = c .before .before .before .before .before .before .before .before .before .before .before .before .before .before .before .before .before .before .before .before .before .before .before .before .before .before .args in
-    entered-length (c .before .before .before .before .before .before .before .before .before .before .before .before .before .before .before .before .before .before .marked .result) (eqb (length (s .counts .now)) 4) (s .registers .now) (c .before .before .before .before .before .before .before .before .before .before .before .before .before .before .before .before .enter .ensures) (c .before .before .before .before .before .before .before .before .before .before .before .before .before .before .state .given .1)
+keep-requires c κs = search needs
 
 count-on-requires : tie.Need-count-on-requires
-count-on-requires c κs =
-    let s = c .before .before .before .before .before .before .before .before .before .before .before .before .before .before .before .before .before .before .before .before .before .before .before .before .before .before .before .before .before .before .args in
-    eqb-true (length (s .counts .now)) 4 (entered-lent (c .before .before .before .before .before .before .before .before .before .before .before .before .before .before .before .before .before .before .before .before .before .before .marked .result) (eqb (length (s .counts .now)) 4) (s .registers .now) (c .before .before .before .before .before .before .before .before .before .before .before .before .before .before .before .before .before .before .before .before .enter .ensures) (c .before .before .before .before .before .before .before .before .before .before .before .before .before .before .before .before .before .before .state .given .1))
+count-on-requires c κs = search needs
 
 enum-known-number : tie.Need-enum-known-number
 enum-known-number c = search needs

@@ -1,0 +1,4 @@
+pub mod Types
+pub mod Image
+pub mod Door
+pub mod Registered
