@@ -1,5 +1,6 @@
-/* The T6963C of crates/boundary, for C and C++: link target/staticlib/libboundary.a, which `rt staticlib boundary` proves and writes, for
-   x86-64. docs/C.md has the steps and an example, docs/RULES.md the controller's rules, docs/NUMBERS.md what to do about a number.
+/* The T6963C for C and C++, for x86-64: link target/staticlib/libboundary.a, which `rt staticlib boundary` proves and writes. Calls that
+   follow rows are in libfollowing.a, by `rt staticlib following`. docs/C.md has the steps and an example, docs/RULES.md the controller's
+   rules, docs/NUMBERS.md what to do about a number.
 
    Every call answers every input, and keeps nothing between calls: all state is in the buffers lent. A buffer is a pointer, not null, and
    the number of its elements; no two buffers of a call may overlap. */
@@ -136,8 +137,9 @@ unsigned t6963c_layers(unsigned long columns, unsigned long lines, unsigned long
                        const unsigned char *rom, unsigned long rom_length,
                        unsigned long row, unsigned long column);
 
-/* t6963c_access that keeps a flag for each dot row: `rows` are exactly 8 * lines bytes, 0 clear, else set; set them all to 1 at the
-   start. A taken pair sets those of the rows that read a byte it stored, or of all rows where it alters what decides the picture. */
+/* libfollowing.a has the next three. t6963c_access that keeps a flag for each dot row: `rows` are exactly 8 * lines bytes, 0 clear, else
+   set; set them all to 1 at the start. A taken pair sets those of the rows that read a byte it stored, or of all rows where it alters what
+   decides the picture. */
 unsigned short t6963c_follow(unsigned long columns, unsigned long lines, unsigned long width, unsigned char dual,
                              unsigned char *registers, unsigned long registers_length,
                              unsigned char *memory, unsigned long memory_length,
