@@ -1,6 +1,6 @@
 /* The T6963C for C and C++, for x86-64: link target/staticlib/libboundary.a, which `rt staticlib boundary` proves and writes. Calls that
-   follow rows are in libfollowing.a, by `rt staticlib following`. docs/C.md has the steps and an example, docs/RULES.md the controller's
-   rules, docs/NUMBERS.md what to do about a number.
+   follow rows are in libfollowing.a, by `rt staticlib following`, the one that asks who wrote in libwriting.a, by `rt staticlib writing`.
+   docs/C.md has the steps and an example, docs/RULES.md the controller's rules, docs/NUMBERS.md what to do about a number.
 
    Every call answers every input, and keeps nothing between calls: all state is in the buffers lent. A buffer is a pointer, not null, and
    the number of its elements; no two buffers of a call may overlap. */
@@ -25,6 +25,7 @@
 #define T6963C_REGISTERS_SIZE 25    /* registers, exactly */
 #define T6963C_COUNTS_SIZE 4        /* an ordinary run's counts, exactly */
 #define T6963C_STOPPING_COUNTS_SIZE 3 /* those of a run that stops */
+#define T6963C_WRITERS_COUNTS_SIZE 2 /* those of a list of stores */
 #define T6963C_FRAME_SIZE_MAX 20480 /* the largest frame, a dual panel's */
 /* A row of the frame, and the frame, in bytes: the leftmost dot is in the top bit, spare bits at a row's end are 0. */
 #define T6963C_ROW_SIZE(columns, width) (((columns) * (width) + 7) / 8)
@@ -49,6 +50,7 @@
 #define T6963C_AGAINST_AUTO 7    /* data written in auto read, or read in auto write */
 #define T6963C_ODD_LOG 8         /* of a log: an odd number of bytes */
 #define T6963C_NO_ANSWER_ROOM 13 /* a read whose answer has no room */
+#define T6963C_NO_ENTRY_ROOM 15 /* stores that the list has no room for */
 #define T6963C_NO_LIST_ROOM 16 /* a refused pair that the list has no room for */
 
 /* Where the registers stand among their 25 bytes, and their ranges. Words have their low byte first. */
@@ -80,6 +82,7 @@
 #define T6963C_TAKEN 1   /* pairs taken */
 #define T6963C_ANSWERS 2 /* answers written */
 #define T6963C_SKIPPED 3 /* pairs skipped and listed, by an ordinary run */
+#define T6963C_ENTRIES 1 /* in place of the pairs taken, of a list of stores: the entries listed */
 
 #ifdef __cplusplus
 extern "C" {
@@ -167,6 +170,19 @@ unsigned char t6963c_refresh(unsigned long columns, unsigned long lines, unsigne
                              const unsigned char *rom, unsigned long rom_length,
                              unsigned char *frame, unsigned long frame_length,
                              unsigned char *rows, unsigned long rows_length);
+
+/* libwriting.a has this one. Who wrote there: all pairs of a log by the ordinary run, its answers dropped, and every byte that they store
+   from address `first` to `last` (first above last: through FFFFH to 0000H), in order, four numbers each: pair, address, byte before, byte
+   after. `counts` become place and entries. Where the entries don't fit: T6963C_NO_ENTRY_ROOM, the first ones listed, and the place is how
+   many are needed. */
+unsigned char t6963c_writers(unsigned long columns, unsigned long lines, unsigned long width, unsigned char dual,
+                             unsigned char *registers, unsigned long registers_length,
+                             unsigned char *memory, unsigned long memory_length,
+                             const unsigned char *rom, unsigned long rom_length,
+                             const unsigned char *log, unsigned long log_length,
+                             unsigned short first, unsigned short last,
+                             unsigned long *entries, unsigned long entries_length,
+                             unsigned long *counts, unsigned long counts_length);
 
 #ifdef __cplusplus
 }

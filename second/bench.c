@@ -15,6 +15,7 @@ enum { ROUNDS = 15, LOG = 400000, FRAME = 8 * 32 * 80 };
 
 static unsigned char memory[SECOND_MEMORY_LENGTH], start[SECOND_MEMORY_LENGTH], rom[SECOND_ROM_LENGTH];
 static unsigned char log_bytes[LOG], answers[LOG], frame[FRAME], other[FRAME], rows[8 * 32];
+static unsigned long entries[2 * LOG];
 
 static double now(void)
 {
@@ -244,6 +245,50 @@ static int refreshes(void)
     return 0;
 }
 
+/* The stores into a bank listed, beside the ordinary run: bank 2, which few pairs write to; and the blocks with bank 0, where each of their
+   bytes is listed. */
+static int listed_runs(void)
+{
+    static const struct {
+        const char *name;
+        unsigned work;
+        unsigned short first, last;
+    } works[] = {{"blocks, bank 2", 0, 0x1000, 0x17ff},
+                 {"single stores, bank 2", 1, 0x1000, 0x17ff},
+                 {"asking, reads, bits, modes, bank 2", 2, 0x1000, 0x17ff},
+                 {"blocks, bank 0, every byte listed", 0, 0, 0x07ff}};
+    const struct second_panel panel = {30, 8, 8, 0};
+    for (unsigned which = 0; which < 4; which++) {
+        const unsigned long length = make(works[which].work);
+        double times[2][ROUNDS];
+        unsigned long found = 0;
+        for (unsigned round = 0; round < ROUNDS; round++)
+            for (unsigned listing = 0; listing < 2; listing++) {
+                struct second_registers r;
+                unsigned char b[REGISTERS];
+                unsigned long counts[4], list[16];
+                second_reset(&r), to_bytes(&r, b);
+                const double before = now();
+                const unsigned number =
+                    listing ? t6963c_writers(panel.columns, panel.lines, panel.width, 0, b, REGISTERS, memory, SECOND_MEMORY_LENGTH, rom,
+                                             SECOND_ROM_LENGTH, log_bytes, length, works[which].first, works[which].last, entries, 2 * LOG,
+                                             counts, 2)
+                            : t6963c_run(panel.columns, panel.lines, panel.width, 0, b, REGISTERS, memory, SECOND_MEMORY_LENGTH, rom,
+                                         SECOND_ROM_LENGTH, log_bytes, length, length, answers, LOG, list, 16, counts, 4);
+                times[listing][round] = now() - before;
+                found = counts[1];
+                if (number) {
+                    printf("the list is refused\n");
+                    return 1;
+                }
+            }
+        const double plain = median(times[0]), listed = median(times[1]), pairs = (double)length / 2;
+        printf("who wrote there, %-36s plain %12.0f pairs/s   listed %12.0f pairs/s: %.2f of its time, %lu entries\n", works[which].name,
+               pairs / plain, pairs / listed, listed / plain, found);
+    }
+    return 0;
+}
+
 int main(void)
 {
     struct generate_random random = {7};
@@ -253,5 +298,5 @@ int main(void)
         rom[i] = (unsigned char)generate_next(&random);
     memcpy(memory, start, SECOND_MEMORY_LENGTH);
     printf("pairs or frames a second; in brackets the proved one as a multiple of the other\n");
-    return runs() || paints() || flagged_runs() || refreshes();
+    return runs() || paints() || flagged_runs() || refreshes() || listed_runs();
 }

@@ -162,9 +162,36 @@ static int viewed(void)
     return 0;
 }
 
+static unsigned writers(unsigned short first, unsigned short last, const unsigned char *log, unsigned long length, unsigned long *entries,
+                        unsigned long room, unsigned long *counts, unsigned long counts_length)
+{
+    return t6963c_writers(1, 2, 8, T6963C_SINGLE, r, sizeof r, memory, sizeof memory, rom, sizeof rom, log, length, first, last, entries, room,
+                          counts, counts_length);
+}
+
+static int wrote(void)
+{
+    /* pointer 4FFFH, B0H, two data, B2H, an undefined code, F9H, a read */
+    static const unsigned char log[] = {0, 0xFF, 0, 0x4F, 1, 0x24, 1, 0xB0, 0, 5, 0, 6, 1, 0xB2, 1, 0x47, 1, 0xF9, 2, 0};
+    unsigned long entries[12], counts[T6963C_WRITERS_COUNTS_SIZE];
+    t6963c_reset(r, sizeof r);
+    memory[0x4FFF] = 1, memory[0x5000] = 2, memory[0x5001] = 0x80;
+    HOLDS(writers(0x5000, 0x57FF, log, sizeof log, entries, 12, counts, 3) == T6963C_LENGTH && memory[0x5000] == 2);
+    HOLDS(writers(0x5000, 0x57FF, log, 3, entries, 12, counts, T6963C_WRITERS_COUNTS_SIZE) == T6963C_ODD_LOG && counts[T6963C_PLACE] == 1);
+    HOLDS(writers(0x5000, 0x57FF, log, sizeof log, entries, 12, counts, T6963C_WRITERS_COUNTS_SIZE) == T6963C_DONE);
+    HOLDS(counts[T6963C_PLACE] == 0 && counts[T6963C_ENTRIES] == 2 && memory[0x4FFF] == 5 && r[T6963C_POINTER] == 1);
+    HOLDS(entries[0] == 5 && entries[1] == 0x5000 && entries[2] == 2 && entries[3] == 6);
+    HOLDS(entries[4] == 8 && entries[5] == 0x5001 && entries[6] == 0x80 && entries[7] == 0x82);
+    t6963c_reset(r, sizeof r);
+    HOLDS(writers(0x57FF, 0x4FFF, log, sizeof log, entries, 3, counts, T6963C_WRITERS_COUNTS_SIZE) == T6963C_NO_ENTRY_ROOM);
+    HOLDS(counts[T6963C_PLACE] == 1 && counts[T6963C_ENTRIES] == 0);
+    return 0;
+}
+
 int main(void)
 {
     int line = tried();
     line = line ? line : halves();
-    return line ? line : viewed();
+    line = line ? line : viewed();
+    return line ? line : wrote();
 }

@@ -98,7 +98,13 @@ module _ (n : ℕ) (new old : List ℕ) where
   pub written-open : {l : List ℕ} → closes n ≡ false → l ≡ replaced new old → l ≡ writtenOf n new old
   written-open e h = h ∙ sym (ap (λ (t : Bool). cond t old (replaced new old)) e)
 
--- three stores over three numbers, four over four
+-- two stores over two numbers, three over three, four over four
+two : (k : List ℕ) (x y : ℕ) → length k ≡ 2 → set (set k 0 x) 1 y ≡ x ∷ y ∷ []
+two [] x y e = absurd (omega arith)
+two (a ∷ []) x y e = absurd (omega arith)
+two (a ∷ b ∷ []) x y e = refl
+two (a ∷ b ∷ c ∷ k) x y e = absurd (omega arith)
+
 three : (k : List ℕ) (x y z : ℕ) → length k ≡ 3 → set (set (set k 0 x) 1 y) 2 z ≡ x ∷ y ∷ z ∷ []
 three [] x y z e = absurd (omega arith)
 three (a ∷ []) x y z e = absurd (omega arith)
@@ -113,6 +119,19 @@ four (v ∷ (w ∷ [])) a b c d h = absurd (omega arith)
 four (v ∷ (w ∷ (x ∷ []))) a b c d h = absurd (omega arith)
 four (v ∷ (w ∷ (x ∷ (y ∷ [])))) a b c d h = refl
 four (v ∷ (w ∷ (x ∷ (y ∷ (z ∷ k))))) a b c d h = absurd (omega arith)
+
+module _ (n : ℕ) (x y : ℕ) (k : List ℕ) where
+  abbrev entries : List ℕ
+  entries = x ∷ y ∷ []
+
+  pub entries-closed : closes n ≡ true → k ≡ writtenOf n entries k
+  entries-closed e = written-closed n entries k e
+
+  pub entries-other : closes n ≡ false → (length k ≡ 2 → ⊥) → k ≡ writtenOf n entries k
+  entries-other e h = written-open n entries k e (replaced-other entries k h)
+
+  pub entries-open : closes n ≡ false → length k ≡ 2 → set (set k 0 x) 1 y ≡ writtenOf n entries k
+  entries-open e h = written-open n entries k e (two k x y h ∙ replaced-same entries k h)
 
 module _ (n : ℕ) (x y z : ℕ) (k : List ℕ) where
   abbrev counts : List ℕ

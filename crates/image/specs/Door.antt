@@ -40,3 +40,7 @@ countsOf n place taken answers k = writtenOf n (place ∷ taken ∷ answers ∷ 
 
 abbrev pub countsOnOf : ℕ → ℕ → ℕ → ℕ → ℕ → List ℕ → List ℕ
 countsOnOf n place taken answers skipped k = writtenOf n (place ∷ taken ∷ answers ∷ skipped ∷ []) k
+
+-- of a list of stores: place, entries listed
+abbrev pub entriesOf : ℕ → ℕ → ℕ → List ℕ → List ℕ
+entriesOf n place entries k = writtenOf n (place ∷ entries ∷ []) k

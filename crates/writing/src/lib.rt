@@ -1,0 +1,2 @@
+// Who wrote there, for C.
+pub mod writing;
