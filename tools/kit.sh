@@ -142,7 +142,8 @@ prove() {
     talk=$work/talk
     { true >"$began" && mkfifo "$talk"; } 2>/dev/null || fail "'$root/target' or '$work' can't be written"
     told "$root/target/log/$1.build" <"$talk" &
-    (cd "$root" && exec setsid rt check "$1" </dev/null >"$talk" 2>&1) &
+    # rt waits for all that it has started before it starts more: with four at a time fewer processors wait
+    (cd "$root" && exec env RT_JOBS="${RT_JOBS:-4}" setsid rt check "$1" </dev/null >"$talk" 2>&1) &
     child=$!
     wait "$child"
     proved=$?
