@@ -135,12 +135,3 @@ pub listed-all : {xs ys l₀ : List ℕ} {from : ℕ} {l : List ℕ} {at i : ℕ
 unfolding numbersOf
 listed-all {xs} {ys} {l₀} {from} {l} {at} {i} k h =
     sym (ap (λ (ds : List Difference). sets l at (numbersOf ds)) (apart-end xs ys i h)) ∙ k .comes
-
--- of the registers' numbers
-module _ (r q : Registers) {va vb : List ℕ} (f : va ≡ registerValues r) (g : vb ≡ registerValues q) where
-  pub values-alike : length va ≡ length vb
-  values-alike = omega (arith, ap length f ∙ values-length r, ap length g ∙ values-length q)
-
-  -- no more of them can differ
-  pub few-values : {n : ℕ} → n ≡ length (differencesFrom 0 va vb) → n ≤ 17
-  few-values k = omega (arith, k, differences-few 0 va vb, ap length f ∙ values-length r)
