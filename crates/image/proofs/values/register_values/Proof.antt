@@ -72,7 +72,7 @@ cast-t25 : tie.Need-cast-t25
 cast-t25 c = search needs
 
 returns : tie.Need-returns
-returns c = values-are _ (c .before .before .before .before .before .before .before .before .before .before .before .before .before .before .before .before .before .before .combination-byte .ensures) (c .before .before .before .before .before .before .before .before .before .before .before .before .before .before .before .before .before .flag-byte .ensures) (c .before .before .before .before .before .before .before .before .before .before .before .before .before .before .before .bits-number .ensures) (c .before .before .before .before .before .before .before .before .before .before .before .before .before .before .auto-byte .ensures) (c .before .before .before .before .before .before .before .before .before .before .before .before .pending-number .ensures) (c .before .before .before .before .before .before .before .before .before .before .before .flag-byte2 .ensures) (c .before .before .before .before .before .before .before .before .before .before .flag-byte3 .ensures)
+returns c = values-are (c .before .before .before .before .before .before .before .before .before .before .before .before .before .before .before .before .before .before .before .before .before .args .registers) (c .before .before .before .before .before .before .before .before .before .before .before .before .before .before .before .before .before .before .combination-byte .ensures) (c .before .before .before .before .before .before .before .before .before .before .before .before .before .before .before .before .before .flag-byte .ensures) (c .before .before .before .before .before .before .before .before .before .before .before .before .before .before .before .bits-number .ensures) (c .before .before .before .before .before .before .before .before .before .before .before .before .before .before .auto-byte .ensures) (c .before .before .before .before .before .before .before .before .before .before .before .before .pending-number .ensures) (c .before .before .before .before .before .before .before .before .before .before .before .flag-byte2 .ensures) (c .before .before .before .before .before .before .before .before .before .before .flag-byte3 .ensures)
 
 pub register-values-spec : {M : Type 1} → statement M
 register-values-spec =
