@@ -2,19 +2,17 @@
 use mathlib.Core.Path.{_≡_, refl, ap, sym, _∙_}
 use mathlib.Core.Bool.{Bool, true, false, cond, not}
 use mathlib.Core.List.{List, _++_}
-use mathlib.Core.Logic.{⊎-elim}
 use Prim.Native.Nat.{ℕ, zero, suc, _+_, _-_, _*_, _/_, _%_, _<_, _≤_}
 use native.Mathlib.Numerals.{add-one}
 use native.Mathlib.Omega.{arith}
 use lib.Dec.{eqb}
 use lib.ListN.{length, getD, take}
 use lib.Seq.{getD-take, take-append-seam}
-use borrow.Author.Tests.{eq-eqb}
 use Rattle.ground.specs.Bytes.{bitOf}
 use Rattle.state.specs.Sizes.{rowSize, validSize}
 use Rattle.state.proofs.Sizes.{is-size, bytes-few, dots-few}
 use Rattle.state.specs.State.{validPanel}
-use Rattle.display.specs.Frame.{dotOf, rowOf, replyOf, Painted, painted}
+use Rattle.display.specs.Frame.{dotOf, rowOf, Painted, painted}
 use Rattle.display.specs.OneRow.{paintOneOf}
 use Rattle.display.specs.Types.{Reply}
 use Rattle.display.proofs.OneRows.{row-length, row-dot, one-is}

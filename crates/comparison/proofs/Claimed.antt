@@ -12,9 +12,8 @@ use Rattle.image.specs.Registered.{registerValues}
 use Rattle.image.proofs.Registries.{values-length, values-same}
 use Rattle.comparison.specs.Types.{Panel, Display}
 use Rattle.whole.specs.Whole.{RanWhole}
-use Rattle.entries.specs.Listed.{Difference, difference, differencesFrom}
+use Rattle.entries.specs.Listed.{difference, differencesFrom}
 use Rattle.comparison.specs.Apart.{rowApart, dotsApart}
-use Rattle.comparison.specs.Verdict.{memoryApart, registersApart}
 use Rattle.comparison.specs.Claims.{entriesOf, AllAgree, Same}
 use Rattle.comparison.proofs.Aparts.{many-none, added-none}
 

@@ -2,7 +2,7 @@
 use mathlib.Core.Path.{_≡_, refl, ap, sym, subst, _∙_}
 use mathlib.Core.Bool.{Bool, true, false, cond, _&&_}
 use mathlib.Core.List.{List}
-use Prim.Native.Nat.{ℕ, _+_, _*_, _/_, _%_, _<_, _≤_}
+use Prim.Native.Nat.{ℕ, _+_, _/_, _%_}
 use native.Mathlib.Omega.{arith}
 use native.Mathlib.Decide.{ℕ-discrete}
 use lib.Dec.{eqb}
@@ -12,14 +12,13 @@ use Rattle.ground.specs.Lists.{zeros}
 use Rattle.ground.proofs.Tests.{both, both-left, both-right, settled}
 use Rattle.state.specs.State.{validPanel, validDisplay, validBus, validRegisters, resetRegisters}
 use Rattle.display.specs.Frame.{lentLengths}
-use Rattle.effects.specs.Machine.{machine}
 use Rattle.controller.specs.Run.{pairsOf, RanAll, stoppingOf}
 use Rattle.controller.proofs.Laws.{sounds, sounds-valid}
 use Rattle.controller.specs.Ready.{standing}
 use Rattle.controller.proofs.Splitting.{running-kept, inside}
 use Rattle.entries.specs.declared.enter.Entered.{Entered}
 use Rattle.entries.specs.Listed.{differencesFrom}
-use Rattle.entries.specs.Entered.{EnteredAll, enteredAll, enteredOf}
+use Rattle.entries.specs.Entered.{enteredAll, enteredOf}
 use Rattle.entries.proofs.Listings.{differences-few}
 use Rattle.entries.proofs.Enterings.{bytes-are, values-are}
 use Rattle.playback.proofs.Parted.{door-8}

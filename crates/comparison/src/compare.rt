@@ -67,7 +67,8 @@ fn told(entered: Entered, dots: usize) -> Compared
             dots,
         };
     }
-    refused(15, entered.bytes + entered.values, 0)
+    let entries = entered.bytes + entered.values;
+    refused(15, entries, 0)
 }
 
 // What differs in two machines.
