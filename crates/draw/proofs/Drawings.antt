@@ -18,7 +18,7 @@ use Rattle.contents.specs.Contents.{wordAt}
 use Rattle.book.specs.Screen.{Screen, screen, refused, screenOf}
 use Rattle.book.specs.Numbers.{screenNumber}
 use Rattle.book.proofs.Numbers.{refusal-number}
-use Rattle.picture.specs.Drawn.{Drew, drewAll, planesFit, drawScreen, drawOf}
+use Rattle.painter.specs.Drawn.{Drew, drewAll, planesFit, drawScreen, drawOf}
 use Rattle.printed.specs.declared.told.Told.{Told}
 use Rattle.state.specs.Sizes.{frameSize, cellCount, validSize}
 use Rattle.state.proofs.Sizes.{is-size}

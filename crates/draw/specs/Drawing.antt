@@ -12,7 +12,7 @@ use Rattle.contents.specs.Contents.{wordAt}
 use Rattle.book.specs.Screen.{Screen, screen, refused, screenOf}
 use Rattle.book.specs.Numbers.{screenNumber}
 use Rattle.picture.specs.Picture.{pictureOf, pictureFrame}
-use Rattle.picture.specs.Drawn.{planesFit}
+use Rattle.painter.specs.Drawn.{planesFit}
 use Rattle.printed.specs.Printed.{panelIn, refusalLine, frameLines, Reported, printText}
 
 -- the fifth byte: 0 is off, any other normal

@@ -7,7 +7,7 @@ ghost use Rattle.draw.specs.Drawing.{drawTextOf, PlanesCut};
 use contents::bytes::word_at;
 use libc::STDIN_FILENO;
 use libc::STDOUT_FILENO;
-use picture::draw::draw;
+use painter::draw::draw;
 use printed::fill::character_rom;
 use printed::input::byte_in;
 use printed::input::panel_in;

@@ -1,5 +1,4 @@
 pub mod Picture
 pub mod Layers
 pub mod Ready
-pub mod Drawn
 pub mod Planned

@@ -1,5 +1,5 @@
 -- A picture as it is lent: three planes and a style; and what inner routines rest on.
-use Prim.Native.Nat.{ℕ, _-_, _*_, _<_}
+use Prim.Native.Nat.{ℕ, _-_, _*_}
 use mathlib.Core.Path.{_≡_}
 use mathlib.Core.Bool.{true}
 use mathlib.Core.List.{List}
@@ -46,14 +46,3 @@ pub record DrawableBody (p : Panel) (book : List ℕ) (start end : ℕ) : Type 0
   pub panel : validPanel p ≡ true
   pub os : List Operation
   pub operations : operationsFrom (end - start) p book start end ≡ screen os
-
--- a valid panel, a character ROM and the three planes
-pub record Paintable (p : Panel) (rom graphic codes glyphs : List ℕ) : Type 0 where
-  pub valid : validPanel p ≡ true
-  pub characters : length rom ≡ 1024
-  pub sized : Sized p graphic codes glyphs
-
--- a dot row and a column of the panel
-pub record OnPanel (p : Panel) (row column : ℕ) : Type 0 where
-  pub down : row < 8 * p .lines
-  pub across : column < p .columns

@@ -2,7 +2,7 @@
 use super::cursor::Laid;
 use state::registers::Combination;
 
-pub(crate) struct Style {
+pub struct Style {
     pub combination: Combination,
     pub cursor: Laid,
 }
