@@ -77,8 +77,8 @@ module _ (p : Panel) (d : Display) (mem rom : List ℕ) (r : ℕ) where
           pub one-drawable : Drawable p d mem rom
           one-drawable = drawable p d mem rom is-valid (sym j ∙ both-right a b e) (both-left (lentLengths mem rom) (eqb (length out) R) h)
 
-          pub one-length : length out ≡ rowSize p
-          one-length = eqb-true (length out) R (both-right (lentLengths mem rom) (eqb (length out) R) h) ∙ one-size
+          pub one-stretch : length out ≡ 1 * R
+          one-stretch = omega (arith, eqb-true (length out) R (both-right (lentLengths mem rom) (eqb (length out) R) h))
 
 -- two replies that meet a promise are equal
 pub one-settled : {x y : Reply} {f g : List ℕ} (p : Panel) (d : Display) (mem rom : List ℕ) (r : ℕ) (out : List ℕ)

@@ -1,9 +1,10 @@
 // The frame: every dot row, each into its own stretch.
 ghost use mathlib.Core.Path.{_≡_};
-ghost use Prim.Native.Nat.{_*_};
+ghost use Prim.Native.Nat.{_+_, _*_, _^_, _≤_};
 ghost use lib.ListN.{length};
+ghost use Rattle.ground.specs.Lists.{joined};
 ghost use Rattle.ground.specs.Packing.{rowBytes};
-ghost use Rattle.display.specs.Frame.{frameOf, painted, paintOf};
+ghost use Rattle.display.specs.Frame.{rowOf, painted, paintOf};
 ghost use Rattle.display.specs.OneRow.{paintOneOf};
 ghost use Rattle.display.specs.Drawable.{Drawable};
 use super::layers::tables;
@@ -13,46 +14,42 @@ use state::registers::Display;
 use state::registers::Registers;
 use state::reply::Reply;
 
-// The rows of a valid state, row r from r times R.
-fn paint_rows(
+// Dot rows of a valid state from `first` on, each into its own stretch.
+fn paint_some(
     panel: Panel,
     display: Display,
     mem: &[u8],
     rom: &[u8],
+    first: usize,
+    count: usize,
     bytes: usize,
-    frame: &mut [u8],
+    out: &mut [u8],
 )
     requires { ⌜ Drawable panel display (now mem) (now rom) ⌝ }
-    requires { ⌜ (bytes ≡ rowBytes (panel .columns) (panel .width)) × (length (now frame) ≡ 8 * panel .lines * bytes) ⌝ }
-    ensures { λ _. ⌜ now (frame .exit) ≡ frameOf panel display (now (mem .entry)) (now (rom .entry)) ⌝ }
+    requires { ⌜ (bytes ≡ rowBytes (panel .columns) (panel .width)) × (length (now out) ≡ count * bytes) × (first + count ≤ 2 ^ 64) ⌝ }
+    ensures { λ _. ⌜ now (out .exit) ≡ joined count (λ i. rowOf panel display (now (mem .entry)) (now (rom .entry)) (first + i)) ⌝ }
 {
     let columns = panel.columns;
-    let lines = panel.lines;
     let mut lit = [0u8; 16];
     let mut dark = [0u8; 16];
     tables(panel, display, &mut lit, &mut dark);
     let mut cells = [0u8; 80];
-    let mut line: usize = 0;
-    while line < lines {
-        let mut v: usize = 0;
-        while v < 8 {
-            let row = 8 * line + v;
-            let at = row * bytes;
-            let end = at + bytes;
-            paint_row(
-                panel,
-                display,
-                mem,
-                rom,
-                &lit,
-                &dark,
-                row,
-                &mut cells[..columns],
-                &mut frame[at..end],
-            );
-            v += 1;
-        }
-        line += 1;
+    let mut i: usize = 0;
+    while i < count {
+        let at = i * bytes;
+        let end = at + bytes;
+        paint_row(
+            panel,
+            display,
+            mem,
+            rom,
+            &lit,
+            &dark,
+            first + i,
+            &mut cells[..columns],
+            &mut out[at..end],
+        );
+        i += 1;
     }
 }
 
@@ -67,7 +64,8 @@ pub fn paint(panel: Panel, registers: Registers, mem: &[u8], rom: &[u8], frame: 
         let fits = (mem.len() == 65536) & (rom.len() == 1024) & (frame.len() == size);
         if fits {
             let display = registers.display;
-            paint_rows(panel, display, mem, rom, bytes, frame);
+            let rows = 8 * panel.lines;
+            paint_some(panel, display, mem, rom, 0, rows, bytes, frame);
             Reply {
                 number: 0,
                 place: 0,
@@ -102,22 +100,7 @@ pub fn paint_one(
         let bytes = panel.row_size();
         let fits = (mem.len() == 65536) & (rom.len() == 1024) & (out.len() == bytes);
         if fits {
-            let columns = panel.columns;
-            let mut lit = [0u8; 16];
-            let mut dark = [0u8; 16];
-            tables(panel, display, &mut lit, &mut dark);
-            let mut cells = [0u8; 80];
-            paint_row(
-                panel,
-                display,
-                mem,
-                rom,
-                &lit,
-                &dark,
-                at,
-                &mut cells[..columns],
-                out,
-            );
+            paint_some(panel, display, mem, rom, at, 1, bytes, out);
             Reply {
                 number: 0,
                 place: 0,

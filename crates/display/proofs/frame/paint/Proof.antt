@@ -1,4 +1,6 @@
 -- `paint` meets its contract: the tests at the door, in order, then the rows.
+use native.Mathlib.Omega.{arith}
+use Rattle.display.proofs.Dots.{all-rows}
 use Rattle.display.proofs.Doors.{painting-0, painting-1, painting-2, painting-drawable, painting-length, row-is}
 use borrow.Author.Needs.{needs}
 use Rattle.display.proofs.frame.paint.Statement.{statement}
@@ -16,24 +18,32 @@ row-size-requires c κs = search needs
 frame-size-requires : tie.Need-frame-size-requires
 frame-size-requires c κs = search needs
 
-paint-rows-requires : tie.Need-paint-rows-requires
-paint-rows-requires c κs =
-    let i = c .before .before .before .before .before .before .before .valid .ensures in
-    let j = c .before .before .before .before .before .before .valid2 .ensures in
-    let e = c .before .before .before .before .before .if1 .taken in
-    let k = c .before .before .before .before .row-size .ensures in
-    let m = c .before .before .before .frame-size .ensures .0 in
-    let h = c .before .before .if2 .taken in
-    let s = c .before .before .before .before .before .before .before .before .before .before .before .args in
-    (painting-drawable (s .panel) (s .registers) (s .mem .now) (s .rom .now) (s .frame .now) i j e m h, (row-is (s .panel) (s .registers) (s .mem .now) (s .rom .now) (s .frame .now) i j e m k, painting-length (s .panel) (s .registers) (s .mem .now) (s .rom .now) (s .frame .now) i j e m h k))
+mul-rows : tie.Need-mul-rows
+mul-rows c =
+    let a = c .before .before .before .before .before .before .before .before .before .before .before .args in
+    let d = painting-drawable (a .panel) (a .registers) (a .mem .now) (a .rom .now) (a .frame .now) (c .before .before .before .before .before .before .before .valid .ensures) (c .before .before .before .before .before .before .valid2 .ensures) (c .before .before .before .before .before .if1 .taken) (c .before .before .before .frame-size .ensures .0) (c .before .before .if2 .taken) in
+    omega (arith, d .lines)
+
+paint-some-requires : tie.Need-paint-some-requires
+paint-some-requires c κs =
+    let a = c .before .before .before .before .before .before .before .before .before .before .before .before .args in
+    let i = c .before .before .before .before .before .before .before .before .valid .ensures in
+    let j = c .before .before .before .before .before .before .before .valid2 .ensures in
+    let e = c .before .before .before .before .before .before .if1 .taken in
+    let k = c .before .before .before .before .before .row-size .ensures in
+    let m = c .before .before .before .before .frame-size .ensures .0 in
+    let h = c .before .before .before .if2 .taken in
+    let d = painting-drawable (a .panel) (a .registers) (a .mem .now) (a .rom .now) (a .frame .now) i j e m h in
+    (d, (row-is (a .panel) (a .registers) (a .mem .now) (a .rom .now) (a .frame .now) i j e m k, painting-length (a .panel) (a .registers) (a .mem .now) (a .rom .now) (a .frame .now) i j e m h k, omega (arith, d .lines)))
 
 same-length : tie.Need-same-length
 same-length c = search needs
 
 returns : tie.Need-returns
 returns c =
-    painting-0 _ _ _ _ _ (c .before .before .before .before .before .before .before .before .before .before .valid .ensures) (c .before .before .before .before .before .before .before .before .before .valid2 .ensures) (c .before .before .before .before .before .before .before .before .if1 .taken) (c .before .before .before .before .before .before .frame-size .ensures .0) (c .before .before .before .before .before .if2 .taken)
-    (c .before .before .paint-rows .ensures)
+    let a = c .before .before .before .before .before .before .before .before .before .before .before .before .before .before .before .args in
+    painting-0 (a .panel) (a .registers) (a .mem .now) (a .rom .now) (a .frame .now) (c .before .before .before .before .before .before .before .before .before .before .before .valid .ensures) (c .before .before .before .before .before .before .before .before .before .before .valid2 .ensures) (c .before .before .before .before .before .before .before .before .before .if1 .taken) (c .before .before .before .before .before .before .before .frame-size .ensures .0) (c .before .before .before .before .before .before .if2 .taken)
+    (all-rows (a .panel) (a .registers .display) (a .mem .now) (a .rom .now) (c .before .before .paint-some .ensures))
 
 returns-2 : tie.Need-returns-2
 returns-2 c = painting-2 _ _ _ _ _ (c .before .before .before .before .before .valid .ensures) (c .before .before .before .before .valid2 .ensures) (c .before .before .before .if1 .taken) (c .before .frame-size .ensures .0) (c .if2 .left)
@@ -49,7 +59,8 @@ paint-spec =
     valid-requires-2
     row-size-requires
     frame-size-requires
-    paint-rows-requires
+    mul-rows
+    paint-some-requires
     same-length
     returns
     returns-2
