@@ -12,7 +12,7 @@ use lib.Bits.{bitAnd, bitOr, and-zero-r, or-zero-l, or-zero-r, and-mask}
 use lib.Pow.{ones-sub-lt}
 use lib.ListN.{length, getD, drop, set, length-set}
 use lib.Seq.{getD-append-add, getD-drop, getD-set-same, getD-set-other, ext-getD}
-use borrow.Author.Tests.{ne-eqb, ltb-true}
+use borrow.Author.Tests.{ne-eqb, ltb-true, lt-ltb, le-ltb}
 use Rattle.ground.specs.Lists.{build}
 use Rattle.ground.proofs.Lists.{build-length, build-at, build-cong}
 use Rattle.ground.specs.Packing.{rowBytes, rowFrom, packOf}
@@ -26,6 +26,7 @@ use Rattle.state.specs.Halves.{cursorY}
 use Rattle.display.specs.Displayed.{addressOf, attributeByte, mixed, glyphDots, textDots, graphicDots, displayedByte, cursorLit, cursorCovers, cellByte}
 use Rattle.state.specs.Attribute.{lookOf, shownAs, attributed}
 use Rattle.state.specs.Combination.{isAttribute}
+use Rattle.display.specs.Shaded.{shadesOf}
 
 -- a pass: the cells filled up to n by a rule, the layer's address at cell n
 pub record Going (f : ℕ → ℕ) (start : ℕ) (l₀ l : List ℕ) (at n : ℕ) : Type 0 where
@@ -112,33 +113,48 @@ module _ (p : Panel) (d : Display) (mem rom : List ℕ) (r : ℕ) where
         go c (no q) = beside c q
 
 -- a row of the table, shown
-pub by-table : (w : ℕ) (normal : Bool) (code n : ℕ) {l : Look} {m x : ℕ} → code < 16 → l ≡ lookOf code
+pub by-table : (w : ℕ) (normal : Bool) (code n : ℕ) {l : Look} {m x : ℕ} → l ≡ lookOf (code % 16)
     → x ≡ cond (l .blinks && not normal) 0 (shownAs (l .shown) w m) → m ≡ n → x ≡ attributed w normal code n
 unfolding attributed
-by-table w normal code n {l} {m} h e i j =
-    i ∙ ap (λ (k : Look). cond (k .blinks && not normal) 0 (shownAs (k .shown) w m)) (e ∙ ap lookOf (omega arith))
-    ∙ ap (λ (k : ℕ). cond (lookOf (code % 16) .blinks && not normal) 0 (shownAs (lookOf (code % 16) .shown) w k)) j
+by-table w normal code n {l} {m} e i j =
+    i ∙ (λ q. cond (e q .blinks && not normal) 0 (shownAs (e q .shown) w (j q)))
 
 -- the dots n of a cell, from what its code makes of all dots set and of all reset
-abbrev pub shaded : List ℕ → List ℕ → ℕ → ℕ → ℕ → ℕ
-shaded lit dark all code n = bitOr (bitAnd n (getD lit code 0)) (bitAnd (all - n) (getD dark code 0))
+abbrev pub shaded : List ℕ → ℕ → ℕ → ℕ → ℕ
+shaded shades all code n = bitOr (bitAnd n (getD shades code 0)) (bitAnd (all - n) (getD shades (code + 16) 0))
 
--- the cells of a row so, before a word is said of where the tables and the dots come from
-abbrev pub shadedAt : List ℕ → List ℕ → ℕ → List ℕ → ℕ → List ℕ → ℕ → ℕ
-shadedAt lit dark all mem start cells c = shaded lit dark all (getD mem ((start + c) % 65536) 0 % 16) (getD cells c 0)
+-- the cells of a row so, before a word is said of where the table and the dots come from
+abbrev pub shadedAt : List ℕ → ℕ → List ℕ → ℕ → List ℕ → ℕ → ℕ
+shadedAt shades all mem start cells c = shaded shades all (getD mem ((start + c) % 65536) 0 % 16) (getD cells c 0)
 
-pub record Shading (lit dark : List ℕ) (all : ℕ) (mem : List ℕ) (start : ℕ) (l₀ l : List ℕ) (at n : ℕ) : Type 0 where
-  pub going : Going (shadedAt lit dark all mem start l₀) start l₀ l at n
+pub record Shading (shades : List ℕ) (all : ℕ) (mem : List ℕ) (start : ℕ) (l₀ l : List ℕ) (at n : ℕ) : Type 0 where
+  pub going : Going (shadedAt shades all mem start l₀) start l₀ l at n
 
-pub shades-from : {lit dark mem l₀ : List ℕ} {all start at : ℕ} → at ≡ (start + 0) % 65536 → Shading lit dark all mem start l₀ l₀ at 0
+pub shades-from : {shades mem l₀ : List ℕ} {all start at : ℕ} → at ≡ (start + 0) % 65536 → Shading shades all mem start l₀ l₀ at 0
 shades-from e = record { going = goes-from _ _ _ e }
 
-pub shades-on : {lit dark mem l₀ l : List ℕ} {all start at n b next : ℕ} → Shading lit dark all mem start l₀ l at n → n < length l₀
+pub shades-on : {shades mem l₀ l : List ℕ} {all start at n b next : ℕ} → Shading shades all mem start l₀ l at n → n < length l₀
     → b ≡ getD mem at 0 → next ≡ (at + 1) % 2 ^ 16
-    → Shading lit dark all mem start l₀ (set l n (shaded lit dark all (b % 16) (getD l n 0))) next (n + 1)
-shades-on {lit} {dark} {mem} {l₀} {l} {all} {start} {at} {n} {b} k h e f =
+    → Shading shades all mem start l₀ (set l n (shaded shades all (b % 16) (getD l n 0))) next (n + 1)
+shades-on {shades} {mem} {l₀} {l} {all} {start} {at} {n} {b} k h e f =
     let i : b ≡ getD mem ((start + n) % 65536) 0 = e ∙ ap (λ (m : ℕ). getD mem m 0) (k .going .place) in
-    record { going = goes-on _ _ _ (k .going) h (λ q. shaded lit dark all (i q % 16) (still _ _ _ (k .going) h q)) f }
+    record { going = goes-on _ _ _ (k .going) h (λ q. shaded shades all (i q % 16) (still _ _ _ (k .going) h q)) f }
+
+-- both halves of the table
+module _ (w : ℕ) (normal : Bool) {shades : List ℕ} (e : shades ≡ shadesOf w normal) (code : ℕ) (h : code < 16) where
+  all-set : getD shades code 0 ≡ attributed w normal code (2 ^ w - 1)
+  all-set =
+      ap (λ (x : List ℕ). getD x code 0) e ∙ build-at 32 _ code 0 (omega arith)
+      ∙ ap (λ (b : Bool). attributed w normal code (cond b (2 ^ w - 1) 0)) (lt-ltb code 16 h)
+
+  all-reset : getD shades (code + 16) 0 ≡ attributed w normal code 0
+  unfolding attributed
+  all-reset =
+      let late : 16 ≤ code + 16 = omega arith in
+      let same : (code + 16) % 16 ≡ code % 16 = omega arith in
+      ap (λ (x : List ℕ). getD x (code + 16) 0) e ∙ build-at 32 _ (code + 16) 0 (omega arith)
+      ∙ ap (λ (b : Bool). attributed w normal (code + 16) (cond b (2 ^ w - 1) 0)) (le-ltb (code + 16) 16 late)
+      ∙ ap (λ (c : ℕ). cond (lookOf c .blinks && not normal) 0 (shownAs (lookOf c .shown) w 0)) same
 
 module _ (w n : ℕ) (h : n < 2 ^ w) where
   -- over plain values: a row of the table made of the two
@@ -161,16 +177,15 @@ module _ (w n : ℕ) (h : n < 2 ^ w) where
       two-ways (lookOf (a % 16 % 16) .blinks && not normal) (lookOf (a % 16 % 16) .shown)
       ∙ ap (λ (m : ℕ). cond (lookOf m .blinks && not normal) 0 (shownAs (lookOf m .shown) w n)) e
 
-module _ (p : Panel) (d : Display) (mem rom : List ℕ) (r first : ℕ) (lit dark : List ℕ) {cells : List ℕ} {all start : ℕ}
-    (i : lit ≡ build 16 (λ n. attributed (p .width) (d .phase) n (2 ^ p .width - 1)))
-    (j : dark ≡ build 16 (λ n. attributed (p .width) (d .phase) n 0)) (e : all ≡ 2 ^ p .width - 1)
+module _ (p : Panel) (d : Display) (mem rom : List ℕ) (r first : ℕ) (shades : List ℕ) {cells : List ℕ} {all start : ℕ}
+    (i : shades ≡ shadesOf (p .width) (d .phase)) (e : all ≡ 2 ^ p .width - 1)
     (s : start ≡ addressOf (d .graphic) (r / 8) first) (k : cells ≡ build (length cells) (λ j. glyphDots p d mem rom r (first + j))) where
   -- dots that are not more than all
   pub within : {n : ℕ} → n < length cells → getD cells n 0 ≤ all
   within {n} h = rw (of-rule (λ j. glyphDots p d mem rom r (first + j)) k h, e) (omega (arith, glyph-lt p d mem rom r (first + n)))
 
   shaded-right : (n : ℕ) → n < length cells
-      → shadedAt lit dark all mem start cells n ≡ attributed (p .width) (d .phase) (attributeByte d mem (r / 8) (first + n)) (glyphDots p d mem rom r (first + n))
+      → shadedAt shades all mem start cells n ≡ attributed (p .width) (d .phase) (attributeByte d mem (r / 8) (first + n)) (glyphDots p d mem rom r (first + n))
   unfolding attributeByte
   shaded-right n h =
       let c = first + n in
@@ -178,12 +193,12 @@ module _ (p : Panel) (d : Display) (mem rom : List ℕ) (r first : ℕ) (lit dar
       let w = p .width in
       let at : getD mem ((start + n) % 65536) 0 ≡ a = ap (λ (m : ℕ). getD mem m 0) (omega (arith, s)) in
       let code : a % 16 < 16 = omega arith in
-      (λ q. shaded lit dark all (at q % 16) (of-rule (λ j. glyphDots p d mem rom r (first + j)) k h q))
-      ∙ (λ q. bitOr (bitAnd (glyphDots p d mem rom r c) ((ap (λ (x : List ℕ). getD x (a % 16) 0) i ∙ build-at 16 _ (a % 16) 0 code) q))
-      (bitAnd (e q - glyphDots p d mem rom r c) ((ap (λ (x : List ℕ). getD x (a % 16) 0) j ∙ build-at 16 _ (a % 16) 0 code) q)))
+      (λ q. shaded shades all (at q % 16) (of-rule (λ j. glyphDots p d mem rom r (first + j)) k h q))
+      ∙ (λ q. bitOr (bitAnd (glyphDots p d mem rom r c) (all-set w (d .phase) i (a % 16) code q))
+      (bitAnd (e q - glyphDots p d mem rom r c) (all-reset w (d .phase) i (a % 16) code q)))
       ∙ two-rows w (glyphDots p d mem rom r c) (glyph-lt p d mem rom r c) (d .phase) a
 
-  pub all-shaded : (l : List ℕ) → l ≡ build (length cells) (shadedAt lit dark all mem start cells)
+  pub all-shaded : (l : List ℕ) → l ≡ build (length cells) (shadedAt shades all mem start cells)
       → l ≡ build (length cells) (λ n. attributed (p .width) (d .phase) (attributeByte d mem (r / 8) (first + n)) (glyphDots p d mem rom r (first + n)))
   all-shaded l h = h ∙ build-cong (length cells) _ _ shaded-right
 

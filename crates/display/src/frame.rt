@@ -30,9 +30,7 @@ fn paint_some(
     ensures { λ _. ⌜ now (out .exit) ≡ joined count (λ i. rowOf panel display (now (mem .entry)) (now (rom .entry)) (first + i)) ⌝ }
 {
     let columns = panel.columns;
-    let mut lit = [0u8; 16];
-    let mut dark = [0u8; 16];
-    tables(panel, display, &mut lit, &mut dark);
+    let shades = tables(panel, display);
     let mut cells = [0u8; 80];
     let mut i: usize = 0;
     while i < count {
@@ -43,8 +41,7 @@ fn paint_some(
             display,
             mem,
             rom,
-            &lit,
-            &dark,
+            &shades,
             first + i,
             &mut cells[..columns],
             &mut out[at..end],

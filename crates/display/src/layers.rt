@@ -1,7 +1,7 @@
 // The layers of a dot row from a column on, laid into its cells one over the other, from the left. What does not depend on the column is
 // worked out once, and a layer's address goes on by one, round, from cell to cell. Nothing else computes a displayed byte.
 ghost use mathlib.Core.Path.{_≡_};
-ghost use mathlib.Core.Bool.{not, _&&_};
+ghost use mathlib.Core.Bool.{cond, not, _&&_};
 ghost use mathlib.Core.Logic.{_⊎_};
 ghost use Prim.Native.Nat.{_+_, _-_, _/_, _^_, _≤_};
 ghost use lib.ListN.{length, getD};
@@ -10,7 +10,7 @@ ghost use Rattle.state.specs.Attribute.{attributed};
 ghost use Rattle.state.specs.Combination.{isAttribute};
 ghost use Rattle.display.specs.Displayed.{attributeByte, glyphDots, textDots, graphicDots, displayedByte};
 ghost use Rattle.display.specs.Layers.{layersAt};
-ghost use Rattle.display.specs.Shaded.{Shaded};
+ghost use Rattle.display.specs.Shaded.{Shaded, shadesOf};
 ghost use Rattle.display.specs.Drawable.{Drawable};
 use super::cell::address;
 use super::cell::byte_at;
@@ -45,32 +45,42 @@ fn lay_glyphs(
     }
 }
 
-// The whole table: what dots that are all set, and all reset, become under each of the sixteen codes.
-fn shades(width: usize, normal: bool, lit: &mut [u8], dark: &mut [u8])
+// Dots that are all set, or all reset.
+fn all_or_none(width: usize, set: bool) -> u8
     requires { ⌜ ((width ≡ 6) ⊎ (width ≡ 8)) ⌝ }
-    requires { ⌜ (length (now lit) ≡ 16) × (length (now dark) ≡ 16) ⌝ }
-    ensures { λ _. ⌜ now (lit .exit) ≡ build 16 (λ n. attributed width normal n (2 ^ width - 1)) ⌝ }
-    ensures { λ _. ⌜ now (dark .exit) ≡ build 16 (λ n. attributed width normal n 0) ⌝ }
+    ensures { λ r. ⌜ r ≡ cond set (2 ^ width - 1) 0 ⌝ }
 {
-    let table = looks();
-    let all = full(width);
-    for code in 0..16 {
-        let look = table[code];
-        lit[code] = look_shows(look, width, normal, all);
-        dark[code] = look_shows(look, width, normal, 0);
+    if set {
+        return full(width);
     }
+    0
 }
 
-// The tables of a state: in attribute mode the shades, else none are asked for.
-pub(crate) fn tables(panel: Panel, display: Display, lit: &mut [u8], dark: &mut [u8])
+// The whole table: what dots that are all set, then all reset, become under each of the sixteen codes.
+fn shades(width: usize, normal: bool) -> [u8; 32]
+    requires { ⌜ ((width ≡ 6) ⊎ (width ≡ 8)) ⌝ }
+    ensures { λ r. ⌜ r ≡ shadesOf width normal ⌝ }
+{
+    let table = looks();
+    let mut made = [0u8; 32];
+    for n in 0..32 {
+        let look = table[n % 16];
+        made[n] = look_shows(look, width, normal, all_or_none(width, n < 16));
+    }
+    made
+}
+
+// The table of a state: in attribute mode the shades, else none are asked for.
+pub(crate) fn tables(panel: Panel, display: Display) -> [u8; 32]
     requires { ⌜ ((panel .width ≡ 6) ⊎ (panel .width ≡ 8)) ⌝ }
-    requires { ⌜ (length (now lit) ≡ 16) × (length (now dark) ≡ 16) ⌝ }
-    ensures { λ _. ⌜ Shaded panel display (now (lit .exit)) (now (dark .exit)) ⌝ }
+    ensures { λ r. ⌜ Shaded panel display r ⌝ }
+    ensures { λ r. ⌜ 32 ≡ length r ⌝ }
 {
     let combination = display.combination;
     if is_attribute(combination) {
-        shades(panel.width, display.phase, lit, dark);
+        return shades(panel.width, display.phase);
     }
+    [0u8; 32]
 }
 
 // The line's attributes over the glyph rows that stand there: of each dot, what its code makes of one that is set or reset.
@@ -79,14 +89,13 @@ fn lay_attributes(
     display: Display,
     mem: &[u8],
     rom: &[u8],
-    lit: &[u8],
-    dark: &[u8],
+    shades: &[u8],
     row: usize,
     column: usize,
     cells: &mut [u8],
 )
     requires { ⌜ Drawable panel display (now mem) (now rom) ⌝ }
-    requires { ⌜ (now lit ≡ build 16 (λ n. attributed (panel .width) (display .phase) n (2 ^ panel .width - 1))) × (now dark ≡ build 16 (λ n. attributed (panel .width) (display .phase) n 0)) ⌝ }
+    requires { ⌜ now shades ≡ shadesOf (panel .width) (display .phase) ⌝ }
     requires { ⌜ now cells ≡ build (length (now cells)) (λ j. glyphDots panel display (now mem) (now rom) row (column + j)) ⌝ }
     ensures { λ _. ⌜ now (cells .exit) ≡ build (length (now (cells .entry))) (λ j. attributed (panel .width) (display .phase) (attributeByte display (now (mem .entry)) (row / 8) (column + j)) (glyphDots panel display (now (mem .entry)) (now (rom .entry)) row (column + j))) ⌝ }
 {
@@ -95,7 +104,7 @@ fn lay_attributes(
     for j in 0..cells.len() {
         let code = (byte_at(mem, at) % 16) as usize;
         let dots = cells[j];
-        cells[j] = (dots & lit[code]) | ((all - dots) & dark[code]);
+        cells[j] = (dots & shades[code]) | ((all - dots) & shades[code + 16]);
         at = std::num::wrapping_add_u16(at, 1);
     }
 }
@@ -115,14 +124,13 @@ fn lay_text(
     display: Display,
     mem: &[u8],
     rom: &[u8],
-    lit: &[u8],
-    dark: &[u8],
+    shades: &[u8],
     row: usize,
     column: usize,
     cells: &mut [u8],
 )
     requires { ⌜ Drawable panel display (now mem) (now rom) ⌝ }
-    requires { ⌜ Shaded panel display (now lit) (now dark) ⌝ }
+    requires { ⌜ Shaded panel display (now shades) ⌝ }
     ensures { λ _. ⌜ now (cells .exit) ≡ build (length (now (cells .entry))) (λ j. textDots panel display (now (mem .entry)) (now (rom .entry)) row (column + j)) ⌝ }
 {
     if !display.bits.text {
@@ -132,7 +140,7 @@ fn lay_text(
     lay_glyphs(panel, display, mem, rom, row, column, cells);
     let combination = display.combination;
     if is_attribute(combination) & display.bits.graphic {
-        lay_attributes(panel, display, mem, rom, lit, dark, row, column, cells);
+        lay_attributes(panel, display, mem, rom, shades, row, column, cells);
     }
 }
 
@@ -217,8 +225,7 @@ pub(crate) fn lay(
     display: Display,
     mem: &[u8],
     rom: &[u8],
-    lit: &[u8],
-    dark: &[u8],
+    shades: &[u8],
     row: usize,
     column: usize,
     text: &mut [u8],
@@ -226,13 +233,13 @@ pub(crate) fn lay(
     shown: &mut [u8],
 )
     requires { ⌜ Drawable panel display (now mem) (now rom) ⌝ }
-    requires { ⌜ Shaded panel display (now lit) (now dark) ⌝ }
+    requires { ⌜ Shaded panel display (now shades) ⌝ }
     requires { ⌜ length (now text) ≤ length (now shown) ⌝ }
     ensures { λ _. ⌜ now (text .exit) ≡ build (length (now (text .entry))) (λ j. layersAt panel display (now (mem .entry)) (now (rom .entry)) row (column + j) .text) ⌝ }
     ensures { λ _. ⌜ now (graphic .exit) ≡ build (length (now (graphic .entry))) (λ j. layersAt panel display (now (mem .entry)) (now (rom .entry)) row (column + j) .graphic) ⌝ }
     ensures { λ _. ⌜ now (shown .exit) ≡ build (length (now (shown .entry))) (λ j. layersAt panel display (now (mem .entry)) (now (rom .entry)) row (column + j) .shown) ⌝ }
 {
-    lay_text(panel, display, mem, rom, lit, dark, row, column, shown);
+    lay_text(panel, display, mem, rom, shades, row, column, shown);
     give_text(shown, text);
     give_graphic(panel, display, mem, row, column, graphic);
     lay_graphic(panel, display, mem, rom, row, column, shown);

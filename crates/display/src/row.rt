@@ -35,14 +35,13 @@ pub(crate) fn paint_row(
     display: Display,
     mem: &[u8],
     rom: &[u8],
-    lit: &[u8],
-    dark: &[u8],
+    shades: &[u8],
     row: usize,
     cells: &mut [u8],
     out: &mut [u8],
 )
     requires { ⌜ Drawable panel display (now mem) (now rom) ⌝ }
-    requires { ⌜ Shaded panel display (now lit) (now dark) ⌝ }
+    requires { ⌜ Shaded panel display (now shades) ⌝ }
     requires { ⌜ length (now cells) ≡ panel .columns ⌝ }
     requires { ⌜ length (now out) ≡ rowBytes (panel .columns) (panel .width) ⌝ }
     ensures { λ _. ⌜ now (out .exit) ≡ rowOf panel display (now (mem .entry)) (now (rom .entry)) row ⌝ }
@@ -54,8 +53,7 @@ pub(crate) fn paint_row(
         display,
         mem,
         rom,
-        lit,
-        dark,
+        shades,
         row,
         0,
         &mut text,

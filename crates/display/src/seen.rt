@@ -36,16 +36,13 @@ pub fn row_layers(
         let alike = (text.len() == shown.len()) & (graphic.len() == shown.len());
         let fits = (mem.len() == 65536) & (rom.len() == 1024) & alike;
         if fits {
-            let mut lit = [0u8; 16];
-            let mut dark = [0u8; 16];
-            tables(panel, display, &mut lit, &mut dark);
+            let shades = tables(panel, display);
             lay(
                 panel,
                 display,
                 mem,
                 rom,
-                &lit,
-                &dark,
+                &shades,
                 row,
                 column,
                 text,

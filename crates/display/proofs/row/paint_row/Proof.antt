@@ -15,12 +15,12 @@ slice-aggregate-lay-2 c = search needs
 
 lay-requires : tie.Need-lay-requires
 lay-requires c κs =
-    let s = c .before .before .before .before .before .before .before .before .before in
+    let s = c .before .before .before .before .before .before .before .before in
     (s .pre .0, (s .pre .1 .0, omega arith))
 
 lay-cursor-requires : tie.Need-lay-cursor-requires
 lay-cursor-requires c κs =
-    let s = c .before .before .before .before .before .before .before .before .before .before .before .before .before .before .before in
+    let s = c .before .before .before .before .before .before .before .before .before .before .before .before .before .before in
     let a = s .args in
     (s .pre .0, whole-row (displayedByte (a .panel) (a .display) (a .mem .now) (a .rom .now) (a .row)) _ (s .pre .1 .1 .0) (c .before .before .before .before .before .lay .ensures .1 .1))
 
@@ -36,7 +36,7 @@ same-length-2 c = search needs
 returns : tie.Need-returns
 unfolding rowOf
 returns c =
-    let s = c .before .before .before .before .before .before .before .before .before .before .before .before .before .before .before .before .before .before .before .before .before .before .before in
+    let s = c .before .before .before .before .before .before .before .before .before .before .before .before .before .before .before .before .before .before .before .before .before .before in
     let a = s .args in
     packed-row (a .panel .columns) (a .panel .width) (cellByte (a .panel) (a .display) (a .mem .now) (a .rom .now) (a .row)) _ _ _ (c .before .before .before .before .before .before .before .lay-cursor .ensures) (s .pre .0 .width) (s .pre .0 .columns) (s .pre .1 .1 .1) (c .before .before .pack .ensures)
 

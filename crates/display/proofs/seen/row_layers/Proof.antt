@@ -1,5 +1,4 @@
 -- `row_layers` meets its contract: the tests at the door, in order, then the layers.
-use mathlib.Core.Path.{refl}
 use Rattle.display.proofs.Asked.{asked-0, asked-1, asked-2, asked-room, asked-drawable}
 use borrow.Author.Needs.{needs}
 use Rattle.display.proofs.seen.row_layers.Statement.{statement}
@@ -11,31 +10,22 @@ valid-requires c κs = search needs
 valid-requires-2 : tie.Need-valid-requires-2
 valid-requires-2 c κs = search needs
 
-slice-aggregate-tables : tie.Need-slice-aggregate-tables
-slice-aggregate-tables c = search needs
-
-slice-aggregate-tables-2 : tie.Need-slice-aggregate-tables-2
-slice-aggregate-tables-2 c = search needs
-
 tables-requires : tie.Need-tables-requires
 tables-requires c κs =
-    let a = c .before .before .before .before .before .before .before .before .before .before .before .args in
-    (asked-drawable (a .panel) (a .display) (a .mem .now) (a .rom .now) (a .row) (a .column) (a .text .now) (a .graphic .now) (a .shown .now) (c .before .before .before .before .before .valid .ensures) (c .before .before .before .before .valid2 .ensures) (c .before .before .before .if1 .taken) (c .before .before .if2 .taken) .width, (refl, refl))
+    let a = c .before .before .before .before .before .before .before .before .before .args in
+    asked-drawable (a .panel) (a .display) (a .mem .now) (a .rom .now) (a .row) (a .column) (a .text .now) (a .graphic .now) (a .shown .now) (c .before .before .before .valid .ensures) (c .before .before .valid2 .ensures) (c .before .if1 .taken) (c .if2 .taken) .width
 
 slice-aggregate-lay : tie.Need-slice-aggregate-lay
-slice-aggregate-lay c = search needs
-
-slice-aggregate-lay-2 : tie.Need-slice-aggregate-lay-2
-slice-aggregate-lay-2 c = search needs
+slice-aggregate-lay c = c .before .tables .ensures .1
 
 lay-requires : tie.Need-lay-requires
 lay-requires c κs =
-    let a = c .before .before .before .before .before .before .before .before .before .before .before .before .before .before .before .before .before .before .before .args in
-    let i = c .before .before .before .before .before .before .before .before .before .before .before .before .before .valid .ensures in
-    let j = c .before .before .before .before .before .before .before .before .before .before .before .before .valid2 .ensures in
-    let e = c .before .before .before .before .before .before .before .before .before .before .before .if1 .taken in
-    let l = c .before .before .before .before .before .before .before .before .before .before .if2 .taken in
-    (asked-drawable (a .panel) (a .display) (a .mem .now) (a .rom .now) (a .row) (a .column) (a .text .now) (a .graphic .now) (a .shown .now) i j e l, (c .before .before .before .before .before .before .before .tables .ensures, asked-room (a .panel) (a .display) (a .mem .now) (a .rom .now) (a .row) (a .column) (a .text .now) (a .graphic .now) (a .shown .now) i j e l))
+    let a = c .before .before .before .before .before .before .before .before .before .before .before .before .before .before .args in
+    let i = c .before .before .before .before .before .before .before .before .valid .ensures in
+    let j = c .before .before .before .before .before .before .before .valid2 .ensures in
+    let e = c .before .before .before .before .before .before .if1 .taken in
+    let l = c .before .before .before .before .before .if2 .taken in
+    (asked-drawable (a .panel) (a .display) (a .mem .now) (a .rom .now) (a .row) (a .column) (a .text .now) (a .graphic .now) (a .shown .now) i j e l, (c .before .before .before .before .tables .ensures .0, asked-room (a .panel) (a .display) (a .mem .now) (a .rom .now) (a .row) (a .column) (a .text .now) (a .graphic .now) (a .shown .now) i j e l))
 
 same-length : tie.Need-same-length
 same-length c = search needs
@@ -48,8 +38,9 @@ same-length-3 c = search needs
 
 returns : tie.Need-returns
 returns c =
-    let a = c .before .before .before .before .before .before .before .before .before .before .before .before .before .before .before .before .before .before .before .before .before .before .before .before .before .before .args in
-    asked-0 (a .panel) (a .display) (a .mem .now) (a .rom .now) (a .row) (a .column) (a .text .now) (a .graphic .now) (a .shown .now) (c .before .before .before .before .before .before .before .before .before .before .before .before .before .before .before .before .before .before .before .before .valid .ensures) (c .before .before .before .before .before .before .before .before .before .before .before .before .before .before .before .before .before .before .before .valid2 .ensures) (c .before .before .before .before .before .before .before .before .before .before .before .before .before .before .before .before .before .before .if1 .taken) (c .before .before .before .before .before .before .before .before .before .before .before .before .before .before .before .before .before .if2 .taken) (c .before .before .before .before .before .before .lay .ensures .0) (c .before .before .before .before .before .before .lay .ensures .1 .0) (c .before .before .before .before .before .before .lay .ensures .1 .1)
+    let a = c .before .before .before .before .before .before .before .before .before .before .before .before .before .before .before .before .before .before .before .before .before .args in
+    let l = c .before .before .before .before .before .before .lay in
+    asked-0 (a .panel) (a .display) (a .mem .now) (a .rom .now) (a .row) (a .column) (a .text .now) (a .graphic .now) (a .shown .now) (c .before .before .before .before .before .before .before .before .before .before .before .before .before .before .before .valid .ensures) (c .before .before .before .before .before .before .before .before .before .before .before .before .before .before .valid2 .ensures) (c .before .before .before .before .before .before .before .before .before .before .before .before .before .if1 .taken) (c .before .before .before .before .before .before .before .before .before .before .before .before .if2 .taken) (l .ensures .0) (l .ensures .1 .0) (l .ensures .1 .1)
 
 returns-2 : tie.Need-returns-2
 returns-2 c =
@@ -67,11 +58,8 @@ row-layers-spec =
     (tie.spec
     valid-requires
     valid-requires-2
-    slice-aggregate-tables
-    slice-aggregate-tables-2
     tables-requires
     slice-aggregate-lay
-    slice-aggregate-lay-2
     lay-requires
     same-length
     same-length-2
