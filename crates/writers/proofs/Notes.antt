@@ -18,52 +18,14 @@ use Rattle.ground.proofs.Lists.{build-length, build-at}
 use Rattle.stores.specs.Stores.{fromAddress}
 use Rattle.writers.specs.Stretch.{Store, store, inStretch, storesIn, numbersOf}
 use Rattle.writers.specs.Listed.{roomOf, capped}
-use Rattle.writers.specs.Ready.{Noting, noting, entryOf, entered, notedBy, notedAll, Held, Clear}
+use Rattle.writers.specs.Ready.{Noting, noting, entryOf, entered, notedBy, notedAll, Held}
 
--- the addresses from one outside the stretch up to its first are outside
-module _ (first last at n : ℕ) (f : first < 65536) (k : last < 65536) (a : at < 65536) where
-  pub clear-none : Clear first last at 0
-  clear-none = record { few = omega arith; outside = λ j h. absurd (omega arith) }
+-- so many more, as 64 bits say it
+pub plus-counts : (count n : ℕ) → count + n < 2 ^ 64 → count + n ≡ capped (count + n)
+plus-counts count n l = sym (ap (λ (t : Bool). cond t (count + n) (2 ^ 64 - 1)) (lt-ltb (count + n) (2 ^ 64) l))
 
-  pub clear-all : inStretch first last at ≡ false → n < 65536 → (n + at) % 65536 ≡ first → Clear first last at n
-  clear-all o l e = record { few = l; outside = λ j h. by-order (leb first last) refl o j h }
-    where
-      apart : (x : ℕ) → (first ≤ x → x ≤ last → ⊥) → (leb first x && leb x last) ≡ false
-      apart x h = go (leb first x) (leb x last) refl refl
-        where
-          go : (t u : Bool) → leb first x ≡ t → leb x last ≡ u → (t && u) ≡ false
-          go true true y z = absurd (h (leb-true first x y) (leb-true x last z))
-          go true false y z = refl
-          go false u y z = refl
-
-      between : (x : ℕ) → x < first → last < x → (leb first x || leb x last) ≡ false
-      between x h i = λ j. lt-leb first x h j || lt-leb x last i j
-
-      by-order : (t : Bool) → leb first last ≡ t → cond t (leb first at && leb at last) (leb first at || leb at last) ≡ false
-          → (j : ℕ) → j < n → cond t (leb first (fromAddress at j) && leb (fromAddress at j) last) (leb first (fromAddress at j) || leb (fromAddress at j) last) ≡ false
-      by-order true y z j h =
-          let order : first ≤ last = leb-true first last y in
-          apart (fromAddress at j) (λ b c. inside (decLt at first) (decLt last at) b c)
-        where
-          inside : Dec (at < first) → Dec (last < at) → first ≤ fromAddress at j → fromAddress at j ≤ last → ⊥
-          inside (yes b) d p q = omega arith
-          inside (no b) (yes d) p q = let order : first ≤ last = leb-true first last y in omega arith
-          inside (no b) (no d) p q = true≢false (sym (both (le-leb first at (omega arith)) (le-leb at last (omega arith))) ∙ z)
-      by-order false y z j h =
-          let order : last < first = leb-false first last y in
-          let outer = neither (leb first at) (leb at last) z in
-          let low : at < first = leb-false first at (outer .0) in
-          let high : last < at = leb-false at last (outer .1) in
-          between (fromAddress at j) (omega arith) (omega arith)
-
--- one more, as 64 bits say it
-pub more-counts : (count : ℕ) → count < 2 ^ 64 - 1 → count + 1 ≡ capped (count + 1)
-more-counts count l = sym (ap (λ (t : Bool). cond t (count + 1) (2 ^ 64 - 1)) (lt-ltb (count + 1) (2 ^ 64) (omega arith)))
-
-pub more-stays : (count : ℕ) → 2 ^ 64 - 1 ≤ count → count < 2 ^ 64 → count ≡ capped (count + 1)
-more-stays count l m =
-    let e : count ≡ 2 ^ 64 - 1 = omega arith in
-    e ∙ sym (ap (λ (t : Bool). cond t (count + 1) (2 ^ 64 - 1)) (le-ltb (count + 1) (2 ^ 64) (omega arith)))
+pub plus-most : (count n : ℕ) → 2 ^ 64 ≤ count + n → 2 ^ 64 - 1 ≡ capped (count + n)
+plus-most count n l = sym (ap (λ (t : Bool). cond t (count + n) (2 ^ 64 - 1)) (le-ltb (count + n) (2 ^ 64) l))
 
 -- a store outside the stretch; inside it, without room and with room
 module _ (first last count pair address before after : ℕ) (list : List ℕ) where
@@ -223,7 +185,7 @@ capped-least n = go (ltb n (2 ^ 64)) refl
     go true e = omega arith
     go false e = let l = ltb-false n (2 ^ 64) e in omega (arith, l)
 
-capped-more : (n : ℕ) → capped (capped n + 1) ≡ capped (n + 1)
+pub capped-more : (n : ℕ) → capped (capped n + 1) ≡ capped (n + 1)
 capped-more n = go (ltb n (2 ^ 64)) refl
   where
     go : (t : Bool) → ltb n (2 ^ 64) ≡ t → capped (cond t n (2 ^ 64 - 1) + 1) ≡ capped (n + 1)

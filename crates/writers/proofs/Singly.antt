@@ -2,7 +2,7 @@
 use mathlib.Core.Path.{_≡_, refl, ap, sym, _∙_}
 use mathlib.Core.Bool.{Bool, true, false, cond, true≢false}
 use mathlib.Core.List.{List}
-use Prim.Native.Nat.{ℕ, _/_, _%_, _<_}
+use Prim.Native.Nat.{ℕ, zero, suc, _/_, _%_, _<_}
 use native.Mathlib.Omega.{arith}
 use lib.Dec.{ltb, eqb}
 use lib.ListN.{getD}
@@ -12,8 +12,8 @@ use Rattle.codes.specs.Command.{transferOf, sightCodeOf, bitCodeOf, groupOf, de
 use Rattle.controller.specs.Types.{Decoded, Defined, Store, Up, Down, Stay}
 use Rattle.stores.specs.Stores.{codeStores}
 use Rattle.writers.specs.Types.{Panel, Registers}
-use Rattle.writers.specs.Stretch.{store}
-use Rattle.writers.specs.Ready.{Noting, noting, notedBy, Noted, Singles}
+use Rattle.writers.specs.Stretch as stretch
+use Rattle.writers.specs.Ready.{Noting, notedBy, notedAll, Noted, Singles}
 
 module _ (p : Panel) (r : Registers) where
   record NoneBy (x : Decoded) : Type 0 where
@@ -50,31 +50,39 @@ module _ (p : Panel) (r : Registers) where
       (past (eqb high 14) (sightCodeOf low) (ne-eqb high 14 b)
       (past (eqb high 15) (bitCodeOf low) (ne-eqb high 15 c) (nothing refl)))))))))
 
+-- below C0H
+pub none-below : (p : Panel) (r : Registers) (k : ℕ) → k < 0xc0 → codeStores p r (decodeOf k) ≡ 0
+none-below p r k h = group-none p r (k / 16) (k % 16) (λ e. omega arith) (λ e. omega arith) (λ e. omega arith) .stores
+
 module _ {k : ℕ} where
   -- C0H, C2H, C4H
   pub single-transfer : k / 16 ≡ 12 → (low : ℕ) → k % 16 ≡ low → ((p : Panel) (r : Registers) → codeStores p r (transferOf low) ≡ 1) → Singles k 1
   single-transfer h low l e =
-      record { counts = λ s p r. ap (λ (n : ℕ). codeStores p r (groupOf n (k % 16))) h ∙ ap (λ (n : ℕ). codeStores p r (transferOf n)) l ∙ e p r }
+      record { few = omega arith; counts = λ s p r. ap (λ (n : ℕ). codeStores p r (groupOf n (k % 16))) h ∙ ap (λ (n : ℕ). codeStores p r (transferOf n)) l ∙ e p r }
 
   pub none-transfer : k / 16 ≡ 12 → (k % 16 ≡ 0 → ⊥) → (k % 16 ≡ 2 → ⊥) → (k % 16 ≡ 4 → ⊥) → Singles k 0
   none-transfer h a b c =
-      record { counts = λ s p r. ap (λ (n : ℕ). codeStores p r (groupOf n (k % 16))) h ∙ transfers-none p r (k % 16) a b c .stores }
-
-  -- E0H up: not said
-  pub unsaid : Singles k 2
-  unsaid = record { counts = λ s. absurd (let y : ⊥ = omega arith in y) }
+      record { few = omega arith; counts = λ s p r. ap (λ (n : ℕ). codeStores p r (groupOf n (k % 16))) h ∙ transfers-none p r (k % 16) a b c .stores }
 
   -- F0H up
   pub single-bit : k / 16 ≡ 15 → Singles k 1
-  single-bit h = record { counts = λ s p r. ap (λ (n : ℕ). codeStores p r (groupOf n (k % 16))) h }
+  single-bit h = record { few = omega arith; counts = λ s p r. ap (λ (n : ℕ). codeStores p r (groupOf n (k % 16))) h }
 
-  pub none-other : (k / 16 ≡ 12 → ⊥) → (k / 16 ≡ 14 → ⊥) → (k / 16 ≡ 15 → ⊥) → Singles k 0
-  none-other a b c = record { counts = λ s p r. group-none p r (k / 16) (k % 16) a b c .stores }
+  pub none-other : (k / 16 ≡ 12 → ⊥) → (k / 16 ≡ 15 → ⊥) → Singles k 0
+  none-other a c = record { few = omega arith; counts = λ s p r. group-none p r (k / 16) (k % 16) a s c .stores }
 
 -- one noted, or none
-module _ {at n : ℕ} (low : at < 65536) {x : Noting} (due count : Noting) where
-  pub one-noted : n ≡ 1 → x ≡ due → Noted at (cond (eqb n 1) due count) x
-  one-noted e f = record { low = low; notes = f ∙ sym (ap (λ (t : Bool). cond t due count) (eq-eqb n 1 e)) }
+module _ {first last k n : ℕ} (s : Singles k n) (x : stretch.Store) (low : x .address < 65536) (before : Noting) where
+  pub one-noted : n ≡ 1 → {y : Noting} → y ≡ notedBy first last x before → Noted first last k x before y
+  unfolding notedAll
+  one-noted e h =
+      record {
+        low = low;
+        notes = λ o p r f i. h ∙ (λ t. notedBy first last (sym i t) before) ∙ ap (λ (j : ℕ). notedAll first last f j before) (sym (s .counts o p r ∙ e));
+      }
 
-  pub none-noted : (n ≡ 1 → ⊥) → x ≡ count → Noted at (cond (eqb n 1) due count) x
-  none-noted e f = record { low = low; notes = f ∙ sym (ap (λ (t : Bool). cond t due count) (ne-eqb n 1 e)) }
+  pub none-noted : (n ≡ 1 → ⊥) → Noted first last k x before before
+  unfolding notedAll
+  none-noted e =
+      let z : n ≡ 0 = omega (arith, s .few, e) in
+      record { low = low; notes = λ o p r f i. ap (λ (j : ℕ). notedAll first last f j before) (sym (s .counts o p r ∙ z)) }

@@ -10,3 +10,4 @@ pub use Rattle.single.specs.declared.access.Acted.{Acted}
 pub use Rattle.usual.specs.declared.tell.Told.{Told}
 pub use Rattle.usual.specs.declared.draw.Drawn.{Drawn}
 pub use Rattle.writers.specs.declared.list.Listed.{Listed}
+pub use Rattle.writers.specs.declared.pair.Said.{Said}

@@ -2,3 +2,4 @@
 mod block;
 pub mod list;
 mod note;
+mod pair;

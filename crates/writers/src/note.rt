@@ -1,15 +1,13 @@
 // Stores entered in the list.
 ghost use mathlib.Core.Path.{_≡_};
-ghost use mathlib.Core.Bool.{cond};
 ghost use mathlib.Core.List.{[], _∷_};
 ghost use Prim.Native.Nat.{_+_, _*_, _<_, _≤_};
-ghost use lib.Dec.{eqb};
 ghost use lib.ListN.{length, getD};
 ghost use lib.Seq.{sets};
 ghost use Rattle.stores.specs.Stores.{fromAddress};
 ghost use Rattle.writers.specs.Stretch.{store, inStretch};
 ghost use Rattle.writers.specs.Listed.{capped};
-ghost use Rattle.writers.specs.Ready.{noting, notedBy, notedAll, Keeps, Noted, Singles, Held};
+ghost use Rattle.writers.specs.Ready.{noting, notedBy, notedAll, Noted, Singles, Held};
 
 pub(crate) fn in_stretch(first: u16, last: u16, address: u16) -> bool
     ensures { λ r. ⌜ r ≡ inStretch first last address ⌝ }
@@ -20,35 +18,36 @@ pub(crate) fn in_stretch(first: u16, last: u16, address: u16) -> bool
     (first <= address) | (address <= last)
 }
 
-// One more; 64 bits can say no more than their most.
-fn more(count: usize) -> usize
-    ensures { λ r. ⌜ r ≡ capped (count + 1) ⌝ }
+// So many more; 64 bits can say no more than their most.
+pub(crate) fn plus(count: usize, n: usize) -> usize
+    ensures { λ r. ⌜ r ≡ capped (count + n) ⌝ }
 {
-    if count < 18446744073709551615 {
-        return count + 1;
+    let left = 18446744073709551615 - count;
+    if left < n {
+        return 18446744073709551615;
     }
-    count
+    count + n
 }
 
-fn put_entry(
+pub(crate) fn put_entry(
     list: &mut [usize],
     at: usize,
     pair: usize,
     address: usize,
-    before: usize,
-    after: usize,
+    before: u8,
+    after: u8,
 )
     requires { ⌜ at + 4 ≤ length (now list) ⌝ }
     ensures { λ _. ⌜ now (list .exit) ≡ sets (now (list .entry)) at (pair ∷ address ∷ before ∷ after ∷ []) ⌝ }
 {
     list[at] = pair;
     list[at + 1] = address;
-    list[at + 2] = before;
-    list[at + 3] = after;
+    list[at + 2] = before as usize;
+    list[at + 3] = after as usize;
 }
 
 // One store, if it is in the stretch: counted, and listed where there is room. The entries needed so far.
-pub(crate) fn note(
+fn note(
     list: &mut [usize],
     count: usize,
     pair: usize,
@@ -64,49 +63,21 @@ pub(crate) fn note(
         return count;
     }
     if list.len() / 4 <= count {
-        return more(count);
+        return plus(count, 1);
     }
     put_entry(
         list,
         4 * count,
         pair,
         address as usize,
-        before as usize,
-        after as usize,
+        before,
+        after,
     );
-    more(count)
+    plus(count, 1)
 }
 
-// The byte at an address.
-pub(crate) fn look(mem: &[u8], at: u16) -> u8
-    requires { ⌜ length (now mem) ≡ 65536 ⌝ }
-    ensures { λ r. ⌜ r ≡ getD (now (mem .entry)) at 0 ⌝ }
-{
-    mem[at as usize]
-}
-
-// One byte stored and noted.
-pub(crate) fn keep(
-    mem: &mut [u8],
-    list: &mut [usize],
-    count: usize,
-    pair: usize,
-    at: u16,
-    byte: u8,
-    first: u16,
-    last: u16,
-) -> usize
-    requires { ⌜ length (now mem) ≡ 65536 ⌝ }
-    ensures { λ r. ⌜ Keeps (now (mem .entry)) at byte (now (mem .exit)) (notedBy first last (store pair at (getD (now (mem .entry)) at 0) byte) (noting count (now (list .entry)))) (noting r (now (list .exit))) ⌝ }
-{
-    let there = at as usize;
-    let was = mem[there];
-    mem[there] = byte;
-    note(list, count, pair, at, was, byte, first, last)
-}
-
-// How many bytes a command stores, by its code: none or one. 2 stands for E0H up, a copy among them.
-pub(crate) fn single(code: u8) -> usize
+// How many bytes a command stores, by its code: none or one; not asked about E0H to EFH, a copy among them.
+fn single(code: u8) -> usize
     ensures { λ r. ⌜ Singles code r ⌝ }
 {
     let high = code / 16;
@@ -118,7 +89,6 @@ pub(crate) fn single(code: u8) -> usize
             4 => 1,
             _ => 0,
         },
-        14 => 2,
         15 => 1,
         _ => 0,
     }
@@ -132,14 +102,14 @@ pub(crate) fn note_one(
     at: u16,
     was: u8,
     mem: &[u8],
-    n: usize,
+    code: u8,
     first: u16,
     last: u16,
 ) -> usize
     requires { ⌜ length (now mem) ≡ 65536 ⌝ }
-    ensures { λ r. ⌜ Noted at (cond (eqb n 1) (notedBy first last (store pair at was (getD (now (mem .entry)) at 0)) (noting count (now (list .entry)))) (noting count (now (list .entry)))) (noting r (now (list .exit))) ⌝ }
+    ensures { λ r. ⌜ Noted first last code (store pair at was (getD (now (mem .entry)) at 0)) (noting count (now (list .entry))) (noting r (now (list .exit))) ⌝ }
 {
-    if n == 1 {
+    if single(code) == 1 {
         let after = mem[at as usize];
         return note(list, count, pair, at, was, after, first, last);
     }

@@ -11,11 +11,11 @@ in-stretch-requires c κs = search needs
 returns : tie.Need-returns
 returns c = note-outside (c .before .before .before .args .first) (c .before .before .before .args .last) (c .before .before .before .args .count) (c .before .before .before .args .pair) (c .before .before .before .args .address) (c .before .before .before .args .before) (c .before .before .before .args .after) (c .before .before .before .args .list .now) (c .before .in-stretch .ensures) (c .if1 .taken)
 
-more-requires : tie.Need-more-requires
-more-requires c κs = search needs
+plus-requires : tie.Need-plus-requires
+plus-requires c κs = search needs
 
 returns-2 : tie.Need-returns-2
-returns-2 c = note-full (c .before .before .before .before .before .args .first) (c .before .before .before .before .before .args .last) (c .before .before .before .before .before .args .count) (c .before .before .before .before .before .args .pair) (c .before .before .before .before .before .args .address) (c .before .before .before .before .before .args .before) (c .before .before .before .before .before .args .after) (c .before .before .before .before .before .args .list .now) (c .before .before .before .in-stretch .ensures) (c .before .before .if1 .left) (c .more .ensures) (c .before .if2 .taken)
+returns-2 c = note-full (c .before .before .before .before .before .args .first) (c .before .before .before .before .before .args .last) (c .before .before .before .before .before .args .count) (c .before .before .before .before .before .args .pair) (c .before .before .before .before .before .args .address) (c .before .before .before .before .before .args .before) (c .before .before .before .before .before .args .after) (c .before .before .before .before .before .args .list .now) (c .before .before .before .in-stretch .ensures) (c .before .before .if1 .left) (c .plus .ensures) (c .before .if2 .taken)
 
 mul-put-entry : tie.Need-mul-put-entry
 mul-put-entry c = search needs
@@ -23,14 +23,14 @@ mul-put-entry c = search needs
 put-entry-requires : tie.Need-put-entry-requires
 put-entry-requires c κs = search needs
 
-more-requires-2 : tie.Need-more-requires-2
-more-requires-2 c κs = search needs
+plus-requires-2 : tie.Need-plus-requires-2
+plus-requires-2 c κs = search needs
 
 same-length : tie.Need-same-length
 same-length c = search needs
 
 returns-3 : tie.Need-returns-3
-returns-3 c = note-room (c .before .before .before .before .before .before .before .before .before .args .first) (c .before .before .before .before .before .before .before .before .before .args .last) (c .before .before .before .before .before .before .before .before .before .args .count) (c .before .before .before .before .before .before .before .before .before .args .pair) (c .before .before .before .before .before .before .before .before .before .args .address) (c .before .before .before .before .before .before .before .before .before .args .before) (c .before .before .before .before .before .before .before .before .before .args .after) (c .before .before .before .before .before .before .before .before .before .args .list .now) (c .before .before .before .before .before .before .before .in-stretch .ensures) (c .before .before .before .before .before .before .if1 .left) (c .more2 .ensures) (c .before .before .before .before .before .if2 .left) (c .before .before .before .put-entry .ensures)
+returns-3 c = note-room (c .before .before .before .before .before .before .before .before .before .args .first) (c .before .before .before .before .before .before .before .before .before .args .last) (c .before .before .before .before .before .before .before .before .before .args .count) (c .before .before .before .before .before .before .before .before .before .args .pair) (c .before .before .before .before .before .before .before .before .before .args .address) (c .before .before .before .before .before .before .before .before .before .args .before) (c .before .before .before .before .before .before .before .before .before .args .after) (c .before .before .before .before .before .before .before .before .before .args .list .now) (c .before .before .before .before .before .before .before .in-stretch .ensures) (c .before .before .before .before .before .before .if1 .left) (c .plus2 .ensures) (c .before .before .before .before .before .if2 .left) (c .before .before .before .put-entry .ensures)
 
 pub note-spec : {M : Type 1} → statement M
 note-spec =
@@ -38,10 +38,10 @@ note-spec =
     (tie.spec
     in-stretch-requires
     returns
-    more-requires
+    plus-requires
     returns-2
     mul-put-entry
     put-entry-requires
-    more-requires-2
+    plus-requires-2
     same-length
     returns-3)

@@ -1,6 +1,6 @@
 -- `single` meets its contract, code by code.
 use mathlib.Core.Path.{refl}
-use Rattle.writers.proofs.Singly.{single-transfer, none-transfer, unsaid, single-bit, none-other}
+use Rattle.writers.proofs.Singly.{single-transfer, none-transfer, single-bit, none-other}
 use Rattle.writers.proofs.note.single.Statement.{statement}
 use Rattle.writers.proofs.note.single.Tie as tie
 
@@ -17,13 +17,10 @@ returns-4 : tie.Need-returns-4
 returns-4 c = none-transfer (c .before .match .keys1) (c .match2 .rest .0 .0 .1) (c .match2 .rest .0 .1) (c .match2 .rest .1)
 
 returns-5 : tie.Need-returns-5
-returns-5 c = unsaid
+returns-5 c = single-bit (c .match .keys2)
 
 returns-6 : tie.Need-returns-6
-returns-6 c = single-bit (c .match .keys3)
-
-returns-7 : tie.Need-returns-7
-returns-7 c = none-other (c .match .rest .0 .0 .1) (c .match .rest .0 .1) (c .match .rest .1)
+returns-6 c = none-other (c .match .rest .0 .1) (c .match .rest .1)
 
 pub single-spec : {M : Type 1} → statement M
-single-spec = tie.close (tie.spec returns returns-2 returns-3 returns-4 returns-5 returns-6 returns-7)
+single-spec = tie.close (tie.spec returns returns-2 returns-3 returns-4 returns-5 returns-6)

@@ -1,0 +1,145 @@
+-- One pair and what it stored: a command told to the bus and the memory, or any pair by a whole access.
+use mathlib.Core.Path.{_≡_, refl, ap, sym, subst, _∙_}
+use mathlib.Core.Bool.{Bool, true, false, cond, not, _&&_, _||_, true≢false, false≢true}
+use mathlib.Core.List.{List}
+use Prim.Native.Nat.{ℕ, _+_, _-_, _/_, _%_, _<_, _≤_}
+use native.Mathlib.Omega.{arith}
+use lib.Dec.{eqb}
+use lib.ListN.{length, getD}
+use borrow.Author.Tests.{eq-eqb, not-true}
+use Rattle.ground.proofs.Tests.{both-left, both-right}
+use Rattle.state.specs.State.{validPanel}
+use Rattle.state.specs.Combination.{isAttribute}
+use Rattle.state.proofs.Valid.{Panelled, panelled}
+use Rattle.codes.specs.Command.{decodeOf}
+use Rattle.effects.specs.Machine.{Machine, machine}
+use Rattle.effects.specs.Effect.{isWrite}
+use Rattle.sight.specs.Sight.{position}
+use Rattle.controller.specs.Types.{Command, Set, Mode, DisplayMode, Height, Run, Store, Load, Peek, Copy, Bit, Decoded, Defined, Undefined, Position, At, Nowhere}
+use Rattle.controller.specs.Access.{Pair, Step, done, answered, refused, stepOf, Accessed, replied, actedOf, accessOf}
+use Rattle.controller.specs.Ready.{Runs}
+use Rattle.controller.proofs.Readied.{access-runs}
+use Rattle.controller.proofs.Turns.{step-number}
+use Rattle.usual.specs.Ready.{Tells}
+use Rattle.stores.specs.Stores.{copyStores, commandStores, codeStores, storesOf, storesAsked, fromAddress}
+use Rattle.writers.specs.Types.{Panel, Display, Bus, Registers, Acted, Told, Said}
+use Rattle.writers.specs.Stretch.{store, storeAt}
+use Rattle.writers.specs.Ready.{Noting, noting, notedAll, Held, Noted, Says, Behind, behind, behindBy}
+use Rattle.writers.proofs.Notes.{notes-same, storesBy}
+
+-- a pair stores at most eighty bytes
+stores-few : (p : Panel) → validPanel p ≡ true → (r : Registers) (q : Pair) → storesOf p r q ≤ 80
+stores-few p v r q = go (eqb (q .kind) 0) (eqb (q .kind) 1)
+  where
+    wide : p .columns ≤ 80
+    wide = panelled p v .columns
+
+    copies : (x : Position) → copyStores p (r .display) x ≤ 80
+    copies (At i c) = some (p .dual || isAttribute (r .display .combination))
+      where
+        some : (t : Bool) → cond t 0 (p .columns - c) ≤ 80
+        some true = omega arith
+        some false = omega (arith, wide)
+    copies Nowhere = omega arith
+
+    commands : (k : Command) → commandStores p r k ≤ 80
+    commands (Set t) = omega arith
+    commands (Mode e k) = omega arith
+    commands (DisplayMode b) = omega arith
+    commands (Height h) = omega arith
+    commands (Run a) = omega arith
+    commands (Store m) = omega arith
+    commands (Load m) = omega arith
+    commands Peek = omega arith
+    commands Copy = copies (position p r)
+    commands (Bit on k) = omega arith
+
+    codes : (d : Decoded) → codeStores p r d ≤ 80
+    codes (Defined k) = commands k
+    codes Undefined = omega arith
+
+    writes : (t : Bool) → cond t 1 0 ≤ 80
+    writes true = omega arith
+    writes false = omega arith
+
+    go : (a b : Bool) → cond a (cond (isWrite (r .bus .auto)) 1 0) (cond b (codeStores p r (decodeOf (q .byte))) 0) ≤ 80
+    go true b = writes (isWrite (r .bus .auto))
+    go false true = codes (decodeOf (q .byte))
+    go false false = omega arith
+
+-- a command told, or left
+module _ {first last pair : ℕ} {b : Bus} {mem : List ℕ} {still : Bool} {k : ℕ} {told : Told} {after : List ℕ}
+    (t : Tells b mem (still && not (eqb (k / 16) 14)) k told after) {count : ℕ} {list : List ℕ} where
+  pub says-done : told .done ≡ true → {was : ℕ} → was ≡ getD mem (b .pointer) 0 → {next : ℕ} {list′ : List ℕ}
+      → Noted first last k (store pair (b .pointer) was (getD after (b .pointer) 0)) (noting count list) (noting next list′)
+      → Says first last pair b mem still k (noting count list) (record { bus = told .bus; count = next; done = true }) after list′
+  says-done d {was} w {next} {list′} n =
+      record {
+        quiet = λ e. both-left still (not (eqb (k / 16) 14)) (t .quiet d);
+        acts = λ e. t .acts d;
+        notes = λ e p s. n .notes other p (record { display = s; bus = b })
+            (storeAt pair (machine (record { display = s; bus = b }) mem) (machine (record { display = s; bus = told .bus }) after))
+            (λ j. store pair (sym here j) (((λ j. getD mem (sym here j) 0) ∙ sym w) j) (getD after (sym here j) 0));
+        keeps = λ e. absurd (true≢false e);
+      }
+    where
+      here : b .pointer ≡ fromAddress (b .pointer) 0
+      here = let low = n .low in omega arith
+
+      other : k / 16 ≡ 14 → ⊥
+      other e = true≢false (sym (eq-eqb (k / 16) 14 e) ∙ not-true (eqb (k / 16) 14) (both-right still (not (eqb (k / 16) 14)) (t .quiet d)))
+
+  pub says-left : told .done ≡ false → Says first last pair b mem still k (noting count list) (record { bus = b; count = count; done = false }) after list
+  says-left d =
+      record {
+        quiet = λ e. absurd (false≢true e);
+        acts = λ e. absurd (false≢true e);
+        notes = λ e. absurd (false≢true e);
+        keeps = λ e. (t .keeps d, refl);
+      }
+
+-- any pair, by a whole access
+module _ {p : Panel} {r : Registers} {mem rom : List ℕ} (k : Runs p r mem rom) (q : Pair) where
+  asked : storesAsked p r q ≡ storesOf p r q
+  asked = ap (λ (t : Bool). cond t (storesOf p r q) 0) (k .panel)
+
+  pub asked-few : {n : ℕ} → n ≡ storesAsked p r q → n ≤ 80
+  asked-few e = subst (λ (j : ℕ). j ≤ 80) (sym (e ∙ asked)) (stores-few p (k .panel) r q)
+
+  module _ (first last pair count : ℕ) (list : List ℕ) {a : Acted} {after : List ℕ} (e : replied a after ≡ accessOf p r mem rom q) where
+    abbrev due : Step Machine → Behind
+    due o = behindBy p first last pair (machine r mem) q (noting count list) o
+
+    abbrev gone : Registers → List ℕ → Behind
+    gone r′ m = behind (machine r′ m) (notedAll first last (storeAt pair (machine r mem) (machine r′ m)) (storesOf p r q) (noting count list))
+
+    -- accepted: the bytes it stored, those before as they were held
+    pub through-accepted : a .number ≡ 0 → {n : ℕ} → n ≡ storesAsked p r q → {before : List ℕ} → Held mem (r .bus .pointer) n before
+        → {x : Noting} → x ≡ notedAll first last (storesBy pair (r .bus .pointer) before after) n (noting count list)
+        → behind (machine (a .registers) after) x ≡ due (stepOf p rom (machine r mem) q)
+    through-accepted z {n} s {before} h {x} f =
+        (λ j. behind (machine (a .registers) after) (noted j)) ∙ go (stepOf p rom (machine r mem) q) refl (e ∙ access-runs k q)
+      where
+        noted : x ≡ notedAll first last (storeAt pair (machine r mem) (machine (a .registers) after)) (storesOf p r q) (noting count list)
+        noted =
+            f
+            ∙ notes-same first last (storesBy pair (r .bus .pointer) before after) (storeAt pair (machine r mem) (machine (a .registers) after)) n (noting count list)
+            (λ j l t. store pair (fromAddress (r .bus .pointer) j) (h .holds j l t) (getD after (fromAddress (r .bus .pointer) j) 0))
+            ∙ ap (λ (j : ℕ). notedAll first last (storeAt pair (machine r mem) (machine (a .registers) after)) j (noting count list)) (s ∙ asked)
+
+        go : (o : Step Machine) → stepOf p rom (machine r mem) q ≡ o → replied a after ≡ actedOf r mem o → gone (a .registers) after ≡ due o
+        go (done t) w i = λ j. gone (i j .acted .registers) (i j .memory)
+        go (answered t c) w i = λ j. gone (i j .acted .registers) (i j .memory)
+        go (refused c) w i =
+            let low = step-number p rom (machine r mem) (q .kind) (q .byte) c w in
+            let same : a .number ≡ c = ap (λ (y : Accessed). y .acted .number) i in
+            absurd (let y : ⊥ = omega (arith, low .0) in y)
+
+    -- refused: all as it was
+    pub through-refused : (a .number ≡ 0 → ⊥) → behind (machine (a .registers) after) (noting count list) ≡ due (stepOf p rom (machine r mem) q)
+    through-refused z = go (stepOf p rom (machine r mem) q) (e ∙ access-runs k q)
+      where
+        go : (o : Step Machine) → replied a after ≡ actedOf r mem o → behind (machine (a .registers) after) (noting count list) ≡ due o
+        go (done t) i = absurd (z (ap (λ (y : Accessed). y .acted .number) i))
+        go (answered t c) i = absurd (z (ap (λ (y : Accessed). y .acted .number) i))
+        go (refused c) i = λ j. behind (machine (i j .acted .registers) (i j .memory)) (noting count list)
