@@ -5,13 +5,17 @@ use ground::bytes::word;
 use libc::STDIN_FILENO;
 use libc::STDOUT_FILENO;
 use printed::fill::empty_memory;
-use printed::input::byte_in;
 use printed::input::panel_in;
 use report::read_exact;
 use report::read_whole;
 use report::report;
 use state::panel::Panel;
 use state::registers::Registers;
+use words::put::put;
+use words::put::put_byte;
+use words::put::put_decimal;
+use words::put::put_hex;
+use words::put::put_word;
 use writers::list::list;
 
 // The registers behind the pairs run, the entries listed, the bytes read, a number, and whether a read or a write failed.
@@ -24,55 +28,17 @@ struct Heard {
 }
 
 // Each of these answers the place behind what it put; what no longer fits is left out.
-fn put_byte(out: &mut [u8], at: usize, byte: u8) -> usize {
-    if at < out.len() {
-        out[at] = byte;
-        at + 1
-    } else {
-        at
-    }
-}
-
-fn put(out: &mut [u8], at: usize, text: &[u8]) -> usize {
-    let mut w = at;
-    let mut i: usize = 0;
-    while i < text.len() {
-        w = put_byte(out, w, text[i]);
-        i += 1;
-    }
-    w
-}
-
-fn put_decimal(out: &mut [u8], at: usize, n: usize) -> usize {
-    let mut digits = [0u8; 20];
-    let k = io::decimal(n as u64, &mut digits);
-    put(out, at, &digits[..k])
-}
-
-fn hex_digit(d: usize) -> u8 {
-    let low = (d % 16) as u8;
-    if low < 10 { 48 + low } else { 55 + low }
-}
-
-fn put_hex(out: &mut [u8], at: usize, n: usize) -> usize {
-    let a = put_byte(out, at, hex_digit(n / 16));
-    put_byte(out, a, hex_digit(n))
-}
-
 fn put_place(out: &mut [u8], at: usize, pair: usize, address: usize) -> usize {
     let a = put(out, at, b"pair ");
     let b = put_decimal(out, a, pair);
-    let c = put(out, b, b" address ");
-    let d = put_hex(out, c, address / 256);
-    put_hex(out, d, address)
+    let c = put_word(out, b, b" address ", (address / 256 % 256) as u8);
+    put_hex(out, c, (address % 256) as u8)
 }
 
 fn put_bytes(out: &mut [u8], at: usize, before: usize, after: usize) -> usize {
-    let a = put(out, at, b" before ");
-    let b = put_hex(out, a, before);
-    let c = put(out, b, b" after ");
-    let d = put_hex(out, c, after);
-    put_byte(out, d, b'\n')
+    let a = put_word(out, at, b" before ", (before % 256) as u8);
+    let b = put_word(out, a, b" after ", (after % 256) as u8);
+    put_byte(out, b, b'\n')
 }
 
 // A line has less than 64 characters.
@@ -128,8 +94,33 @@ fn put_entries(list: &[usize], count: usize, past: usize) -> bool {
     true
 }
 
-// The next part of the log, 512 pairs where it is not the last: no more than 80 entries a pair, so that they fit in the room.
+// A part of the log listed, its lines written.
 fn list_part(
+    panel: Panel,
+    registers: Registers,
+    memory: &mut [u8],
+    rom: &[u8],
+    part: &[u8],
+    first: u16,
+    last: u16,
+    room: &mut [usize],
+    past: usize,
+    bytes: usize,
+) -> Heard {
+    let listed = list(panel, registers, memory, rom, part, first, last, room);
+    let told = put_entries(room, listed.count, past);
+    let after = listed.registers;
+    Heard {
+        registers: after,
+        stores: listed.count,
+        bytes,
+        number: listed.number,
+        failed: !told,
+    }
+}
+
+// The next part of the log, 512 pairs where it is not the last: no more than 80 entries a pair, so that they fit in the room.
+fn next_part(
     panel: Panel,
     registers: Registers,
     memory: &mut [u8],
@@ -151,7 +142,7 @@ fn list_part(
         };
     }
     let whole = got.count / 2 * 2;
-    let listed = list(
+    list_part(
         panel,
         registers,
         memory,
@@ -160,16 +151,9 @@ fn list_part(
         first,
         last,
         room,
-    );
-    let told = put_entries(room, listed.count, past);
-    let after = listed.registers;
-    Heard {
-        registers: after,
-        stores: listed.count,
-        bytes: got.count,
-        number: listed.number,
-        failed: !told,
-    }
+        past,
+        got.count,
+    )
 }
 
 // Part after part, from reset; the last one is shorter than the others. The turns end behind 2^42 bytes.
@@ -186,7 +170,7 @@ fn list_all(
     let mut bytes: usize = 0;
     let mut turns: usize = 4294967296;
     while turns > 0 {
-        let heard = list_part(panel, registers, memory, rom, first, last, room, bytes / 2);
+        let heard = next_part(panel, registers, memory, rom, first, last, room, bytes / 2);
         registers = heard.registers;
         stores = std::num::wrapping_add_usize(stores, heard.stores);
         bytes = std::num::wrapping_add_usize(bytes, heard.bytes);
@@ -242,10 +226,10 @@ fn main() {
     if got.failed {
         return;
     }
-    let end = got.count;
-    let panel = panel_in(&head[..end], os::arg_count() > 1);
-    let first = word(byte_in(&head[..end], 3), byte_in(&head[..end], 4));
-    let last = word(byte_in(&head[..end], 5), byte_in(&head[..end], 6));
+    // what was not read is 0, as a missing byte counts
+    let panel = panel_in(&head, os::arg_count() > 1);
+    let first = word(head[3], head[4]);
+    let last = word(head[5], head[6]);
     let mut memory = empty_memory();
     let mut room = [0usize; 163840];
     let heard = list_all(panel, &mut memory, &rom, first, last, &mut room);

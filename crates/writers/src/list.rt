@@ -90,7 +90,17 @@ fn follow(
         let byte = log[2 * pair + 1];
         let auto = bus.auto;
         if (kind == 0) & is_write(auto) {
-            let laid = lay(mem, list, count, log, pair, total - pair, bus.pointer, first, last);
+            let laid = lay(
+                mem,
+                list,
+                count,
+                log,
+                pair,
+                total - pair,
+                bus.pointer,
+                first,
+                last,
+            );
             bus = passed(bus, laid.pairs);
             count = laid.count;
             i = pair + laid.pairs;

@@ -65,14 +65,7 @@ fn note(
     if list.len() / 4 <= count {
         return plus(count, 1);
     }
-    put_entry(
-        list,
-        4 * count,
-        pair,
-        address as usize,
-        before,
-        after,
-    );
+    put_entry(list, 4 * count, pair, address as usize, before, after);
     plus(count, 1)
 }
 

@@ -88,7 +88,17 @@ pub(crate) fn through(
     let next = acted.registers.display;
     let then = acted.registers.bus;
     if acted.number == 0 {
-        let noted = note_all(list, count, pair, bus.pointer, all, &before, mem, first, last);
+        let noted = note_all(
+            list,
+            count,
+            pair,
+            bus.pointer,
+            all,
+            &before,
+            mem,
+            first,
+            last,
+        );
         return Gone {
             display: next,
             bus: then,

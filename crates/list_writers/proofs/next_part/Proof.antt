@@ -1,10 +1,10 @@
--- `list_part` is safe.
+-- `next_part` is safe: the whole pairs of a part stand in its buffer.
 use mathlib.Core.Path.{sym}
 use native.Mathlib.Omega.{arith}
 use lib.Seq.{length-take-le}
 use borrow.Author.Needs.{needs}
-use Rattle.list_writers.proofs.list_part.Statement.{statement}
-use Rattle.list_writers.proofs.list_part.Tie as tie
+use Rattle.list_writers.proofs.next_part.Statement.{statement}
+use Rattle.list_writers.proofs.next_part.Tie as tie
 
 slice-aggregate-read-whole : tie.Need-slice-aggregate-read-whole
 slice-aggregate-read-whole c = search needs
@@ -21,14 +21,11 @@ mul-whole c = search needs
 array-share-prefix-part : tie.Need-array-share-prefix-part
 array-share-prefix-part c = search needs
 
-slice-aggregate-list : tie.Need-slice-aggregate-list
-slice-aggregate-list c = sym (length-take-le _ _ (omega (arith, c .before .before .before .before .before .read-whole .ensures .0)))
+slice-aggregate-list-part : tie.Need-slice-aggregate-list-part
+slice-aggregate-list-part c = sym (length-take-le _ _ (omega (arith, c .before .before .before .before .before .read-whole .ensures .0)))
 
-list-requires : tie.Need-list-requires
-list-requires c κs = search needs
-
-put-entries-requires : tie.Need-put-entries-requires
-put-entries-requires c κs = search needs
+list-part-requires : tie.Need-list-part-requires
+list-part-requires c κs = search needs
 
 same-length : tie.Need-same-length
 same-length c = search needs
@@ -39,8 +36,8 @@ same-length-2 c = search needs
 returns-2 : tie.Need-returns-2
 returns-2 c = search needs
 
-pub list-part-spec : {M : Type 1} → statement M
-list-part-spec =
+pub next-part-spec : {M : Type 1} → statement M
+next-part-spec =
     tie.close
     (tie.spec
     slice-aggregate-read-whole
@@ -48,9 +45,8 @@ list-part-spec =
     returns
     mul-whole
     array-share-prefix-part
-    slice-aggregate-list
-    list-requires
-    put-entries-requires
+    slice-aggregate-list-part
+    list-part-requires
     same-length
     same-length-2
     returns-2)
