@@ -2,8 +2,8 @@
 use mathlib.Core.Path.{_≡_, refl, ap, sym, _∙_}
 use mathlib.Core.Bool.{Bool, true, false, cond, not, _&&_, true≢false}
 use mathlib.Core.List.{List, _++_}
-use mathlib.Core.Logic.{_⊎_}
-use Prim.Native.Nat.{ℕ, _+_, _-_, _/_, _%_, _^_, _<_, _≤_}
+use mathlib.Core.Logic.{_⊎_, ⊎-elim}
+use Prim.Native.Nat.{ℕ, _+_, _-_, _/_, _%_, _^_, _<_, _≤_, min}
 use native.Mathlib.Nat.{mod-eq-of-lt}
 use native.Mathlib.Decide.{ℕ-discrete}
 use native.Mathlib.Omega.{arith}
@@ -19,14 +19,13 @@ use Rattle.ground.specs.Packing.{rowBytes, rowFrom, packOf}
 use Rattle.ground.proofs.Filling.{Filled, none-yet, one-more}
 use Rattle.ground.proofs.Packs.{packed-by-rule}
 use Rattle.ground.proofs.Tests.{both-right}
-use Rattle.display.specs.Types.{Panel, Display, Combination, Or, Exor, And, Attribute, Manner, Normal, Reverse, Inhibit, Look}
+use Rattle.display.specs.Types.{Panel, Display, Combination, Or, Exor, And, Attribute, Manner, Normal, Reverse, Inhibit}
 use Rattle.display.proofs.Bounds.{glyph-lt}
 use Rattle.display.proofs.Cases.{graphic-on, graphic-off, text-off, text-plain, text-attributed, cell-shown, cell-cursor}
 use Rattle.state.specs.Halves.{cursorY}
 use Rattle.display.specs.Displayed.{addressOf, attributeByte, mixed, glyphDots, textDots, graphicDots, displayedByte, cursorLit, cursorCovers, cellByte}
-use Rattle.state.specs.Attribute.{lookOf, shownAs, attributed}
+use Rattle.state.specs.Attribute.{lookOf, shownAs, attributed, shadesOf}
 use Rattle.state.specs.Combination.{isAttribute}
-use Rattle.display.specs.Shaded.{shadesOf}
 
 -- a pass: the cells filled up to n by a rule, the layer's address at cell n
 pub record Going (f : ℕ → ℕ) (start : ℕ) (l₀ l : List ℕ) (at n : ℕ) : Type 0 where
@@ -112,13 +111,6 @@ module _ (p : Panel) (d : Display) (mem rom : List ℕ) (r : ℕ) where
             ap (displayedByte p d mem rom r) q ∙ cell-shown p d mem rom r (d .cursor .x) i j e refl ∙ ap (cellByte p d mem rom r) (sym q)
         go c (no q) = beside c q
 
--- a row of the table, shown
-pub by-table : (w : ℕ) (normal : Bool) (code n : ℕ) {l : Look} {m x : ℕ} → l ≡ lookOf (code % 16)
-    → x ≡ cond (l .blinks && not normal) 0 (shownAs (l .shown) w m) → m ≡ n → x ≡ attributed w normal code n
-unfolding attributed
-by-table w normal code n {l} {m} e i j =
-    i ∙ (λ q. cond (e q .blinks && not normal) 0 (shownAs (e q .shown) w (j q)))
-
 -- the dots n of a cell, from what its code makes of all dots set and of all reset
 abbrev pub shaded : List ℕ → ℕ → ℕ → ℕ → ℕ
 shaded shades all code n = bitOr (bitAnd n (getD shades code 0)) (bitAnd (all - n) (getD shades (code + 16) 0))
@@ -139,6 +131,10 @@ pub shades-on : {shades mem l₀ l : List ℕ} {all start at n b next : ℕ} →
 shades-on {shades} {mem} {l₀} {l} {all} {start} {at} {n} {b} k h e f =
     let i : b ≡ getD mem ((start + n) % 65536) 0 = e ∙ ap (λ (m : ℕ). getD mem m 0) (k .going .place) in
     record { going = goes-on _ _ _ (k .going) h (λ q. shaded shades all (i q % 16) (still _ _ _ (k .going) h q)) f }
+
+-- a table of a width that there is
+pub eight-most : (w : ℕ) (normal : Bool) → (w ≡ 6) ⊎ (w ≡ 8) → shadesOf (min w 8) normal ≡ shadesOf w normal
+eight-most w normal h = ap (λ (v : ℕ). shadesOf v normal) (⊎-elim (λ (e : w ≡ 6). omega arith) (λ (e : w ≡ 8). omega arith) h)
 
 -- both halves of the table
 module _ (w : ℕ) (normal : Bool) {shades : List ℕ} (e : shades ≡ shadesOf w normal) (code : ℕ) (h : code < 16) where

@@ -1,14 +1,8 @@
 // What the byte of a cell in a dot row is made of.
 ghost use mathlib.Core.Path.{_≡_};
-ghost use mathlib.Core.Bool.{cond, not, _&&_};
-ghost use mathlib.Core.Logic.{_⊎_};
-ghost use Prim.Native.Nat.{_-_, _%_, _^_, _≤_, _<_};
+ghost use Prim.Native.Nat.{_≤_, _<_};
 ghost use lib.ListN.{length, getD};
 ghost use Rattle.display.specs.Displayed.{addressOf, glyphRow, mixed, cursorLit, cursorCovers};
-ghost use Rattle.state.specs.Attribute.{shownAs};
-use ground::bytes::full;
-use state::attribute::Look;
-use state::attribute::Manner;
 use state::combination::combine;
 use state::panel::Panel;
 use state::registers::Combination;
@@ -46,23 +40,6 @@ pub(crate) fn glyph(display: Display, mem: &[u8], rom: &[u8], code: u8, v: usize
     }
     let from = 2048 * (display.offset as usize) + 8 * k + v;
     mem[from]
-}
-
-// The w bits of a glyph row under a row of the table.
-pub(crate) fn look_shows(look: Look, width: usize, normal: bool, dots: u8) -> u8
-    requires { ⌜ ((width ≡ 6) ⊎ (width ≡ 8)) ⌝ }
-    requires { ⌜ dots < 2 ^ width ⌝ }
-    ensures { λ r. ⌜ r ≡ cond (look .blinks && not normal) 0 (shownAs (look .shown) width dots) ⌝ }
-{
-    if look.blinks & !normal {
-        return 0;
-    }
-    let shown = look.shown;
-    match shown {
-        Manner::Normal => dots,
-        Manner::Reverse => full(width) - dots,
-        Manner::Inhibit => 0,
-    }
 }
 
 // The layers that are on, together.

@@ -1,25 +1,24 @@
 // The layers of a dot row from a column on, laid into its cells one over the other, from the left. What does not depend on the column is
 // worked out once, and a layer's address goes on by one, round, from cell to cell. Nothing else computes a displayed byte.
 ghost use mathlib.Core.Path.{_≡_};
-ghost use mathlib.Core.Bool.{cond, not, _&&_};
+ghost use mathlib.Core.Bool.{not, _&&_};
 ghost use mathlib.Core.Logic.{_⊎_};
-ghost use Prim.Native.Nat.{_+_, _-_, _/_, _^_, _≤_};
+ghost use Prim.Native.Nat.{_+_, _/_, _≤_};
 ghost use lib.ListN.{length, getD};
 ghost use Rattle.ground.specs.Lists.{build};
-ghost use Rattle.state.specs.Attribute.{attributed};
+ghost use Rattle.state.specs.Attribute.{attributed, shadesOf};
 ghost use Rattle.state.specs.Combination.{isAttribute};
 ghost use Rattle.display.specs.Displayed.{attributeByte, glyphDots, textDots, graphicDots, displayedByte};
 ghost use Rattle.display.specs.Layers.{layersAt};
-ghost use Rattle.display.specs.Shaded.{Shaded, shadesOf};
+ghost use Rattle.display.specs.Shaded.{Shaded};
 ghost use Rattle.display.specs.Drawable.{Drawable};
 use super::cell::address;
 use super::cell::byte_at;
 use super::cell::glyph;
-use super::cell::look_shows;
 use super::cell::mix;
 use ground::bytes::full;
 use ground::bytes::low;
-use state::attribute::looks;
+use state::attribute::shades;
 use state::combination::is_attribute;
 use state::panel::Panel;
 use state::registers::Display;
@@ -43,31 +42,6 @@ fn lay_glyphs(
         cells[j] = low(panel.width, glyph(display, mem, rom, code, row % 8));
         at = std::num::wrapping_add_u16(at, 1);
     }
-}
-
-// Dots that are all set, or all reset.
-fn all_or_none(width: usize, set: bool) -> u8
-    requires { ⌜ ((width ≡ 6) ⊎ (width ≡ 8)) ⌝ }
-    ensures { λ r. ⌜ r ≡ cond set (2 ^ width - 1) 0 ⌝ }
-{
-    if set {
-        return full(width);
-    }
-    0
-}
-
-// The whole table: what dots that are all set, then all reset, become under each of the sixteen codes.
-fn shades(width: usize, normal: bool) -> [u8; 32]
-    requires { ⌜ ((width ≡ 6) ⊎ (width ≡ 8)) ⌝ }
-    ensures { λ r. ⌜ r ≡ shadesOf width normal ⌝ }
-{
-    let table = looks();
-    let mut made = [0u8; 32];
-    for n in 0..32 {
-        let look = table[n % 16];
-        made[n] = look_shows(look, width, normal, all_or_none(width, n < 16));
-    }
-    made
 }
 
 // The table of a state: in attribute mode the shades, else none are asked for.

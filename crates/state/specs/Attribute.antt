@@ -1,7 +1,9 @@
 -- 01, A displayed byte: the table of the sixteen attribute codes, and what it does to a glyph row.
 use Prim.Native.Nat.{ℕ, _-_, _%_, _^_}
+use mathlib.Core.List.{List}
 use mathlib.Core.Bool.{Bool, cond, not, _&&_}
-use lib.Dec.{leb, eqb}
+use lib.Dec.{ltb, leb, eqb}
+use Rattle.ground.specs.Lists.{build}
 use Rattle.state.specs.Types.{Manner, Normal, Reverse, Inhibit, Look}
 
 -- the table: low three bits 5 reverse, 3 inhibit, else normal; bit 3 blinks (02, Req 04)
@@ -22,3 +24,7 @@ shownAs Inhibit w n = 0
 unfoldable pub attributed : ℕ → Bool → ℕ → ℕ → ℕ
 attributed w normal attribute n =
     cond (lookOf (attribute % 16) .blinks && not normal) 0 (shownAs (lookOf (attribute % 16) .shown) w n)
+
+-- what it makes, in one phase, of w bits that are all set under each of the sixteen codes; then again, of all reset
+abbrev pub shadesOf : ℕ → Bool → List ℕ
+shadesOf w normal = build 32 (λ n. attributed w normal n (cond (ltb n 16) (2 ^ w - 1) 0))

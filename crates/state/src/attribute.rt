@@ -1,7 +1,11 @@
 // The attribute codes.
 ghost use mathlib.Core.Path.{_≡_};
+ghost use mathlib.Core.Bool.{cond, not, _&&_};
+ghost use Prim.Native.Nat.{_^_, _<_, min};
+ghost use Rattle.ground.specs.Bytes.{fullOf};
 ghost use Rattle.ground.specs.Lists.{build};
-ghost use Rattle.state.specs.Attribute.{lookOf};
+ghost use Rattle.state.specs.Attribute.{lookOf, shownAs, shadesOf};
+use ground::bytes::full;
 
 // How a glyph row is shown.
 pub enum Manner {
@@ -76,4 +80,43 @@ pub fn looks() -> [Look; 16]
     ensures { λ r. ⌜ r ≡ build 16 lookOf ⌝ }
 {
     LOOKS
+}
+
+// The w bits of a glyph row under a row of the table.
+fn look_shows(look: Look, width: usize, normal: bool, dots: u8) -> u8
+    requires { ⌜ dots < 2 ^ min width 8 ⌝ }
+    ensures { λ r. ⌜ r ≡ cond (look .blinks && not normal) 0 (shownAs (look .shown) (min width 8) dots) ⌝ }
+{
+    if look.blinks & !normal {
+        return 0;
+    }
+    let shown = look.shown;
+    match shown {
+        Manner::Normal => dots,
+        Manner::Reverse => full(width) - dots,
+        Manner::Inhibit => 0,
+    }
+}
+
+// Dots that are all set, or all reset.
+fn all_or_none(width: usize, set: bool) -> u8
+    ensures { λ r. ⌜ r ≡ cond set (fullOf width) 0 ⌝ }
+{
+    if set {
+        return full(width);
+    }
+    0
+}
+
+// What dots that are all set, then all reset, become under each of the sixteen codes; eight are the most.
+pub fn shades(width: usize, normal: bool) -> [u8; 32]
+    ensures { λ r. ⌜ r ≡ shadesOf (min width 8) normal ⌝ }
+{
+    let table = looks();
+    let mut made = [0u8; 32];
+    for n in 0..32 {
+        let look = table[n % 16];
+        made[n] = look_shows(look, width, normal, all_or_none(width, n < 16));
+    }
+    made
 }

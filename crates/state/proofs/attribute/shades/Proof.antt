@@ -1,22 +1,21 @@
 -- `shades` meets its contract: code by code, twice, the table read once.
 use mathlib.Core.Path.{_≡_, refl, sym, _∙_}
 use mathlib.Core.Bool.{cond}
-use Prim.Native.Nat.{_-_, _%_, _^_}
+use Prim.Native.Nat.{_-_, _%_, _^_, min}
 use native.Mathlib.Omega.{arith}
 use lib.Dec.{ltb}
 use lib.ListN.{length, length-set}
 use lib.Pow.{pow-pos, ones-lt}
 use Rattle.ground.proofs.Filling.{Filled, none-yet, as-long, one-more, at-end}
 use Rattle.state.specs.Attribute.{attributed}
-use Rattle.state.proofs.Tables.{in-table}
+use Rattle.state.proofs.Tables.{in-table, by-table}
 use Rattle.state.proofs.Widths.{cond-lt}
-use Rattle.display.proofs.Passes.{by-table}
 use borrow.Author.Needs.{needs}
-use Rattle.display.proofs.layers.shades.Statement.{statement}
-use Rattle.display.proofs.layers.shades.Tie as tie
+use Rattle.state.proofs.attribute.shades.Statement.{statement}
+use Rattle.state.proofs.attribute.shades.Tie as tie
 
 abbrev Inv-loop : tie.InvT-loop
-Inv-loop width normal table made₀ n₀ made n = (length made ≡ 32) × Filled (λ k. attributed width normal k (cond (ltb k 16) (2 ^ width - 1) 0)) made₀ made n
+Inv-loop width normal table made₀ n₀ made n = (length made ≡ 32) × Filled (λ k. attributed (min width 8) normal k (cond (ltb k 16) (2 ^ min width 8 - 1) 0)) made₀ made n
 
 abbrev μ-loop : tie.MeasureT-loop
 μ-loop width normal table made₀ n₀ made n = 32 - n
@@ -34,13 +33,12 @@ array-copy-out-look : tie.Need-array-copy-out-look Inv-loop μ-loop
 array-copy-out-look c = omega arith
 
 all-or-none-requires : tie.Need-all-or-none-requires Inv-loop μ-loop
-all-or-none-requires c κs = c .before .before .before .before .pre
+all-or-none-requires c κs = search needs
 
 look-shows-requires : tie.Need-look-shows-requires Inv-loop μ-loop
 look-shows-requires c κs =
-    let s = c .before .before .before .before .before in
-    let w = s .args .width in
-    (s .pre, rw (c .all-or-none .ensures) (cond-lt w (ltb (c .before .before .before .loop .n) 16) (2 ^ w - 1) 0 (ones-lt w) (pow-pos w)))
+    let w = min (c .before .before .before .before .before .args .width) 8 in
+    rw (c .all-or-none .ensures) (cond-lt w (ltb (c .before .before .before .loop .n) 16) (2 ^ w - 1) 0 (ones-lt w) (pow-pos w))
 
 array-write-made : tie.Need-array-write-made Inv-loop μ-loop
 array-write-made c = omega (arith, c .before .before .before .before .loop .inv .0, c .before .before .before .loop-test .taken)

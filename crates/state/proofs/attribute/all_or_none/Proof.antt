@@ -1,15 +1,13 @@
 -- `all_or_none` meets its contract.
-use mathlib.Core.Path.{_∙_}
-use Rattle.ground.proofs.Lows.{full-low}
 use borrow.Author.Needs.{needs}
-use Rattle.display.proofs.layers.all_or_none.Statement.{statement}
-use Rattle.display.proofs.layers.all_or_none.Tie as tie
+use Rattle.state.proofs.attribute.all_or_none.Statement.{statement}
+use Rattle.state.proofs.attribute.all_or_none.Tie as tie
 
 full-requires : tie.Need-full-requires
 full-requires c κs = search needs
 
 returns : tie.Need-returns
-returns c = simp (c .before .if1 .taken) (c .full .ensures ∙ full-low _ (c .before .before .pre))
+returns c = simp (c .before .if1 .taken) (c .full .ensures)
 
 returns-2 : tie.Need-returns-2
 returns-2 c = simp (c .if1 .left)

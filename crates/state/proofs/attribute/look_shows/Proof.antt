@@ -1,11 +1,11 @@
 -- `look_shows` meets its contract, by the table's row.
-use mathlib.Core.Path.{sym, _∙_}
+use mathlib.Core.Path.{sym}
+use Prim.Native.Nat.{min}
 use native.Mathlib.Nat.{le-trans, le-of-eq}
 use lib.Pow.{le-ones}
 use borrow.Author.Needs.{needs}
-use Rattle.ground.proofs.Lows.{full-low}
-use Rattle.display.proofs.cell.look_shows.Statement.{statement}
-use Rattle.display.proofs.cell.look_shows.Tie as tie
+use Rattle.state.proofs.attribute.look_shows.Statement.{statement}
+use Rattle.state.proofs.attribute.look_shows.Tie as tie
 
 returns : tie.Need-returns
 returns c = rw (c .if1 .taken)
@@ -22,7 +22,7 @@ full-requires c κs = search needs
 sub-result : tie.Need-sub-result
 sub-result c =
     let s = c .before .before .before .before .before in
-    le-trans (le-ones (s .args .width) (s .pre .1)) (le-of-eq (sym (c .full .ensures ∙ full-low _ (s .pre .0))))
+    le-trans (le-ones (min (s .args .width) 8) (s .pre)) (le-of-eq (sym (c .full .ensures)))
 
 enum-told-3 : tie.Need-enum-told-3
 enum-told-3 c = search needs
@@ -31,7 +31,7 @@ returns-2 : tie.Need-returns-2
 returns-2 c = rw (c .before .before .if1 .left, c .enum-told .given .1)
 
 returns-3 : tie.Need-returns-3
-returns-3 c = rw (c .before .before .before .if1 .left, c .before .enum-told2 .given .1, c .full .ensures ∙ full-low _ (c .before .before .before .before .before .pre .0))
+returns-3 c = rw (c .before .before .before .if1 .left, c .before .enum-told2 .given .1, c .full .ensures)
 
 returns-4 : tie.Need-returns-4
 returns-4 c = rw (c .before .before .if1 .left, c .enum-told3 .given .1)
