@@ -14,7 +14,7 @@ use Rattle.display.specs.Types.{Panel, Display, Reply, Seen}
 use Rattle.display.specs.Frame.{lentLengths, replyOf}
 use Rattle.display.specs.Drawable.{Drawable}
 use Rattle.display.specs.Layers.{layersAt, dark, seenOf, layersOf, Stretch, stretch, layersFrom, alike, rowLayersOf}
-use Rattle.display.proofs.Doors.{drawable}
+use Rattle.display.proofs.Doors.{drawable, turned-away}
 
 module _ (p : Panel) (d : Display) (mem rom : List ℕ) (r c : ℕ) (text graphic shown : List ℕ) {a b : Bool} (i : a ≡ validPanel p) (j : b ≡ validDisplay d) where
   asked : (v : Bool) → (a && b) ≡ v
@@ -32,7 +32,7 @@ module _ (p : Panel) (d : Display) (mem rom : List ℕ) (r c : ℕ) (text graphi
       (stretch (replyOf 1) text graphic shown))
       (sym (λ k. i k && j k) ∙ e))
 
-  pub asked-1 : (a && b) ≡ false → stretch (replyOf 1) text graphic shown ≡ rowLayersOf p d mem rom r c text graphic shown
+  asked-1 : (a && b) ≡ false → stretch (replyOf 1) text graphic shown ≡ rowLayersOf p d mem rom r c text graphic shown
   asked-1 e = asked false e
 
   module _ (e : (a && b) ≡ true) where
@@ -41,7 +41,7 @@ module _ (p : Panel) (d : Display) (mem rom : List ℕ) (r c : ℕ) (text graphi
     fitting v l =
         sym (ap (λ (t : Bool). cond t (layersFrom p d mem rom r c (length shown)) (stretch (replyOf 2) text graphic shown)) l) ∙ asked true e
 
-    pub asked-2 : (lentLengths mem rom && alike text graphic shown) ≡ false
+    asked-2 : (lentLengths mem rom && alike text graphic shown) ≡ false
         → stretch (replyOf 2) text graphic shown ≡ rowLayersOf p d mem rom r c text graphic shown
     asked-2 l = fitting false l
 
@@ -63,17 +63,23 @@ module _ (p : Panel) (d : Display) (mem rom : List ℕ) (r c : ℕ) (text graphi
       asked-drawable =
           drawable p d mem rom (sym i ∙ both-left a b e) (sym j ∙ both-right a b e) (both-left (lentLengths mem rom) (alike text graphic shown) l)
 
-      pub asked-0 : {t g s : List ℕ} → t ≡ build (length text) (λ n. layersAt p d mem rom r (c + n) .text)
+      pub asked-0 : {t g s : List ℕ} {n : ℕ} → n ≡ 0 → t ≡ build (length text) (λ n. layersAt p d mem rom r (c + n) .text)
           → g ≡ build (length graphic) (λ n. layersAt p d mem rom r (c + n) .graphic)
           → s ≡ build (length shown) (λ n. layersAt p d mem rom r (c + n) .shown)
-          → stretch (replyOf 0) t g s ≡ rowLayersOf p d mem rom r c text graphic shown
-      asked-0 h k m =
+          → stretch (replyOf n) t g s ≡ rowLayersOf p d mem rom r c text graphic shown
+      asked-0 z h k m =
           (λ q.
-          stretch (replyOf 0)
+          stretch (replyOf (z q))
           ((h ∙ ap (λ (z : ℕ). build z (λ n. layersAt p d mem rom r (c + n) .text)) text-count) q)
           ((k ∙ ap (λ (z : ℕ). build z (λ n. layersAt p d mem rom r (c + n) .graphic)) graphic-count) q)
           (m q))
           ∙ fitting true l
+
+  -- turned away at the door
+  pub asked-no : {n : ℕ} → n ≡ cond (a && b) (cond (lentLengths mem rom && alike text graphic shown) 0 2) 1 → (n ≡ 0 → ⊥)
+      → stretch (replyOf n) text graphic shown ≡ rowLayersOf p d mem rom r c text graphic shown
+  asked-no e z =
+      turned-away (a && b) (lentLengths mem rom && alike text graphic shown) (λ k. stretch (replyOf k) text graphic shown) e z asked-1 (λ v f. asked-2 v f)
 
 -- of lists of one length, past the tests
 pub row-layers-are : (p : Panel) (d : Display) (mem rom : List ℕ) (r c : ℕ) (text graphic shown : List ℕ) → validPanel p ≡ true → validDisplay d ≡ true

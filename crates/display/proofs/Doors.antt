@@ -1,8 +1,9 @@
 -- What holds past the tests at the door, and what each of them answers.
-use mathlib.Core.Path.{_≡_, ap, sym, _∙_}
+use mathlib.Core.Path.{_≡_, refl, ap, sym, _∙_}
 use mathlib.Core.List.{List}
 use mathlib.Core.Bool.{Bool, true, false, cond, _&&_}
 use Prim.Native.Nat.{ℕ, _*_}
+use native.Mathlib.Omega.{arith}
 use lib.Dec.{eqb}
 use lib.ListN.{length}
 use borrow.Author.Tests.{eqb-true}
@@ -31,6 +32,19 @@ drawable p d mem rom i j l =
       characters = eqb-true (length rom) 1024 (both-right (eqb (length mem) 65536) _ l);
     }
 
+-- the number at the door: past it both tests hold
+pub let-in : (v f : Bool) {n : ℕ} → n ≡ cond v (cond f 0 2) 1 → n ≡ 0 → (v ≡ true) × (f ≡ true)
+let-in true true e z = (refl, refl)
+let-in true false e z = absurd (omega (arith, e, z))
+let-in false f e z = absurd (omega (arith, e, z))
+
+-- else it is the first that fails
+pub turned-away : {A : Type 0} (v f : Bool) {n : ℕ} (g : ℕ → A) {y : A} → n ≡ cond v (cond f 0 2) 1 → (n ≡ 0 → ⊥)
+    → (v ≡ false → g 1 ≡ y) → (v ≡ true → f ≡ false → g 2 ≡ y) → g n ≡ y
+turned-away true true g e z one two = absurd (z e)
+turned-away true false g e z one two = ap g e ∙ two refl refl
+turned-away false f g e z one two = ap g e ∙ one refl
+
 -- a frame that is painted, for whoever knows that it fits
 pub painted-is : (p : Panel) (r : Registers) (mem rom frame : List ℕ) → (validPanel p && validRegisters r) ≡ true → (lentLengths mem rom && frameFits p frame) ≡ true
     → paintOf p r mem rom frame ≡ painted (replyOf 0) (frameOf p (r .display) mem rom)
@@ -49,7 +63,7 @@ module _ (p : Panel) (r : Registers) (mem rom frame : List ℕ) {a b : Bool} (i 
       (ap (λ (t : Bool). cond t (cond (lentLengths mem rom && frameFits p frame) (painted (replyOf 0) (frameOf p (r .display) mem rom)) (painted (replyOf 2) frame)) (painted (replyOf 1) frame))
       (sym (λ k. i k && j k) ∙ e))
 
-  pub painting-1 : (a && b) ≡ false → painted (replyOf 1) frame ≡ paintOf p r mem rom frame
+  painting-1 : (a && b) ≡ false → painted (replyOf 1) frame ≡ paintOf p r mem rom frame
   painting-1 e = painting false e
 
   module _ (e : (a && b) ≡ true) {S : ℕ} (m : S ≡ validSize p (frameSize p)) where
@@ -62,15 +76,15 @@ module _ (p : Panel) (r : Registers) (mem rom frame : List ℕ) {a b : Bool} (i 
     fits-is : (v : Bool) → (lentLengths mem rom && eqb (length frame) S) ≡ v → (lentLengths mem rom && frameFits p frame) ≡ v
     fits-is v h = sym (λ q. lentLengths mem rom && eqb (length frame) (is-size p panel-valid m q)) ∙ h
 
-    pub painting-2 : (lentLengths mem rom && eqb (length frame) S) ≡ false → painted (replyOf 2) frame ≡ paintOf p r mem rom frame
+    painting-2 : (lentLengths mem rom && eqb (length frame) S) ≡ false → painted (replyOf 2) frame ≡ paintOf p r mem rom frame
     painting-2 h =
         sym (ap (λ (t : Bool). cond t (painted (replyOf 0) (frameOf p (r .display) mem rom)) (painted (replyOf 2) frame)) (fits-is false h))
         ∙ painting true e
 
     module _ (h : (lentLengths mem rom && eqb (length frame) S) ≡ true) where
-      pub painting-0 : {f : List ℕ} → f ≡ frameOf p (r .display) mem rom → painted (replyOf 0) f ≡ paintOf p r mem rom frame
-      painting-0 n =
-          ap (painted (replyOf 0)) n
+      pub painting-0 : {f : List ℕ} {n : ℕ} → n ≡ 0 → f ≡ frameOf p (r .display) mem rom → painted (replyOf n) f ≡ paintOf p r mem rom frame
+      painting-0 z n =
+          (λ k. painted (replyOf (z k)) (n k))
           ∙ sym (ap (λ (t : Bool). cond t (painted (replyOf 0) (frameOf p (r .display) mem rom)) (painted (replyOf 2) frame)) (fits-is true h))
           ∙ painting true e
 
@@ -83,6 +97,12 @@ module _ (p : Panel) (r : Registers) (mem rom frame : List ℕ) {a b : Bool} (i 
       pub painting-length : {R : ℕ} → R ≡ validSize p (rowSize p) → length frame ≡ 8 * p .lines * R
       painting-length k =
           eqb-true (length frame) S (both-right (lentLengths mem rom) _ h) ∙ is-size p panel-valid m ∙ ap (λ (n : ℕ). 8 * p .lines * n) (sym (row-is k))
+
+  -- turned away at the door
+  pub painting-no : {S n : ℕ} → S ≡ validSize p (frameSize p)
+      → n ≡ cond (a && b) (cond (lentLengths mem rom && eqb (length frame) S) 0 2) 1 → (n ≡ 0 → ⊥) → painted (replyOf n) frame ≡ paintOf p r mem rom frame
+  painting-no {S} m e z =
+      turned-away (a && b) (lentLengths mem rom && eqb (length frame) S) (λ k. painted (replyOf k) frame) e z painting-1 (λ v f. painting-2 v m f)
 
 -- two replies that meet a promise are equal
 pub paint-settled : {x y : Reply} {f g : List ℕ} (p : Panel) (r : Registers) (mem rom frame : List ℕ)

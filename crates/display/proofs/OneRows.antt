@@ -20,7 +20,7 @@ use Rattle.display.specs.Displayed.{cellByte}
 use Rattle.display.specs.Frame.{dotOf, rowOf, lentLengths, replyOf, Painted, painted}
 use Rattle.display.specs.OneRow.{rowFits, paintOneOf}
 use Rattle.display.specs.Drawable.{Drawable}
-use Rattle.display.proofs.Doors.{drawable}
+use Rattle.display.proofs.Doors.{drawable, turned-away}
 
 module _ (p : Panel) (d : Display) (mem rom : List ℕ) (r : ℕ) where
   pub row-length : length (rowOf p d mem rom r) ≡ rowSize p
@@ -54,7 +54,7 @@ module _ (p : Panel) (d : Display) (mem rom : List ℕ) (r : ℕ) where
       tests : {v : Bool} → (a && b) ≡ v → (validPanel p && validDisplay d) ≡ v
       tests e = sym (λ k. i k && j k) ∙ e
 
-      pub one-1 : (a && b) ≡ false → painted (replyOf 1) out ≡ paintOneOf p d mem rom r out
+      one-1 : (a && b) ≡ false → painted (replyOf 1) out ≡ paintOneOf p d mem rom r out
       one-1 e = ones false (lentLengths mem rom && rowFits p out) (tests e) (λ k. lentLengths mem rom && rowFits p out)
 
       module _ (e : (a && b) ≡ true) {R : ℕ} (m : R ≡ validSize p (rowSize p)) where
@@ -67,18 +67,24 @@ module _ (p : Panel) (d : Display) (mem rom : List ℕ) (r : ℕ) where
         fits-are : (v : Bool) → (lentLengths mem rom && eqb (length out) R) ≡ v → (lentLengths mem rom && rowFits p out) ≡ v
         fits-are v h = sym (λ k. lentLengths mem rom && eqb (length out) (one-size k)) ∙ h
 
-        pub one-2 : (lentLengths mem rom && eqb (length out) R) ≡ false → painted (replyOf 2) out ≡ paintOneOf p d mem rom r out
+        one-2 : (lentLengths mem rom && eqb (length out) R) ≡ false → painted (replyOf 2) out ≡ paintOneOf p d mem rom r out
         one-2 h = ones true false (tests e) (fits-are false h)
 
         module _ (h : (lentLengths mem rom && eqb (length out) R) ≡ true) where
-          pub one-0 : {l : List ℕ} → l ≡ rowOf p d mem rom r → painted (replyOf 0) l ≡ paintOneOf p d mem rom r out
-          one-0 k = ap (painted (replyOf 0)) k ∙ ones true true (tests e) (fits-are true h)
+          pub one-0 : {l : List ℕ} {n : ℕ} → n ≡ 0 → l ≡ rowOf p d mem rom r → painted (replyOf n) l ≡ paintOneOf p d mem rom r out
+          one-0 z k = (λ q. painted (replyOf (z q)) (k q)) ∙ ones true true (tests e) (fits-are true h)
 
           pub one-drawable : Drawable p d mem rom
           one-drawable = drawable p d mem rom is-valid (sym j ∙ both-right a b e) (both-left (lentLengths mem rom) (eqb (length out) R) h)
 
           pub one-stretch : length out ≡ 1 * R
           one-stretch = omega (arith, eqb-true (length out) R (both-right (lentLengths mem rom) (eqb (length out) R) h))
+
+      -- turned away at the door
+      pub one-no : {R n : ℕ} → R ≡ validSize p (rowSize p) → n ≡ cond (a && b) (cond (lentLengths mem rom && eqb (length out) R) 0 2) 1
+          → (n ≡ 0 → ⊥) → painted (replyOf n) out ≡ paintOneOf p d mem rom r out
+      one-no {R} m e z =
+          turned-away (a && b) (lentLengths mem rom && eqb (length out) R) (λ k. painted (replyOf k) out) e z one-1 (λ v f. one-2 v m f)
 
 -- two replies that meet a promise are equal
 pub one-settled : {x y : Reply} {f g : List ℕ} (p : Panel) (d : Display) (mem rom : List ℕ) (r : ℕ) (out : List ℕ)

@@ -7,6 +7,7 @@ ghost use Rattle.ground.specs.Packing.{rowBytes};
 ghost use Rattle.display.specs.Frame.{rowOf, painted, paintOf};
 ghost use Rattle.display.specs.OneRow.{paintOneOf};
 ghost use Rattle.display.specs.Drawable.{Drawable};
+use super::door::refusal;
 use super::layers::tables;
 use super::row::paint_row;
 use state::panel::Panel;
@@ -55,30 +56,22 @@ pub fn paint(panel: Panel, registers: Registers, mem: &[u8], rom: &[u8], frame: 
     ensures { λ r. ⌜ painted r (now (frame .exit)) ≡ paintOf panel registers (now (mem .entry)) (now (rom .entry)) (now (frame .entry)) ⌝ }
 {
     let valid = panel.valid() & registers.valid();
-    if valid {
-        let bytes = panel.row_size();
-        let size = panel.frame_size();
-        let fits = (mem.len() == 65536) & (rom.len() == 1024) & (frame.len() == size);
-        if fits {
-            let display = registers.display;
-            let rows = 8 * panel.lines;
-            paint_some(panel, display, mem, rom, 0, rows, bytes, frame);
-            Reply {
-                number: 0,
-                place: 0,
-            }
-        } else {
-            Reply {
-                number: 2,
-                place: 0,
-            }
-        }
-    } else {
-        Reply {
-            number: 1,
-            place: 0,
-        }
+    let bytes = panel.row_size();
+    let size = panel.frame_size();
+    let number = refusal(valid, mem, rom, frame.len() == size);
+    if number == 0 {
+        paint_some(
+            panel,
+            registers.display,
+            mem,
+            rom,
+            0,
+            8 * panel.lines,
+            bytes,
+            frame,
+        );
     }
+    Reply { number, place: 0 }
 }
 
 // One dot row, any, in a buffer of just its bytes, or a refusal that leaves it as it was.
@@ -93,25 +86,10 @@ pub fn paint_one(
     ensures { λ r. ⌜ painted r (now (out .exit)) ≡ paintOneOf panel display (now (mem .entry)) (now (rom .entry)) at (now (out .entry)) ⌝ }
 {
     let valid = panel.valid() & display.valid();
-    if valid {
-        let bytes = panel.row_size();
-        let fits = (mem.len() == 65536) & (rom.len() == 1024) & (out.len() == bytes);
-        if fits {
-            paint_some(panel, display, mem, rom, at, 1, bytes, out);
-            Reply {
-                number: 0,
-                place: 0,
-            }
-        } else {
-            Reply {
-                number: 2,
-                place: 0,
-            }
-        }
-    } else {
-        Reply {
-            number: 1,
-            place: 0,
-        }
+    let bytes = panel.row_size();
+    let number = refusal(valid, mem, rom, out.len() == bytes);
+    if number == 0 {
+        paint_some(panel, display, mem, rom, at, 1, bytes, out);
     }
+    Reply { number, place: 0 }
 }

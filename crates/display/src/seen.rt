@@ -1,6 +1,7 @@
 // The layers, for whoever asks.
 ghost use mathlib.Core.Path.{_≡_};
 ghost use Rattle.display.specs.Layers.{layersOf, stretch, rowLayersOf};
+use super::door::refusal;
 use super::layers::lay;
 use super::layers::tables;
 use state::panel::Panel;
@@ -32,39 +33,24 @@ pub fn row_layers(
     ensures { λ r. ⌜ stretch r (now (text .exit)) (now (graphic .exit)) (now (shown .exit)) ≡ rowLayersOf panel display (now (mem .entry)) (now (rom .entry)) row column (now (text .entry)) (now (graphic .entry)) (now (shown .entry)) ⌝ }
 {
     let valid = panel.valid() & display.valid();
-    if valid {
-        let alike = (text.len() == shown.len()) & (graphic.len() == shown.len());
-        let fits = (mem.len() == 65536) & (rom.len() == 1024) & alike;
-        if fits {
-            let shades = tables(panel, display);
-            lay(
-                panel,
-                display,
-                mem,
-                rom,
-                &shades,
-                row,
-                column,
-                text,
-                graphic,
-                shown,
-            );
-            Reply {
-                number: 0,
-                place: 0,
-            }
-        } else {
-            Reply {
-                number: 2,
-                place: 0,
-            }
-        }
-    } else {
-        Reply {
-            number: 1,
-            place: 0,
-        }
+    let alike = (text.len() == shown.len()) & (graphic.len() == shown.len());
+    let number = refusal(valid, mem, rom, alike);
+    if number == 0 {
+        let shades = tables(panel, display);
+        lay(
+            panel,
+            display,
+            mem,
+            rom,
+            &shades,
+            row,
+            column,
+            text,
+            graphic,
+            shown,
+        );
     }
+    Reply { number, place: 0 }
 }
 
 // The layers of one cell.

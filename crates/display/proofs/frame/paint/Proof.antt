@@ -1,7 +1,7 @@
--- `paint` meets its contract: the tests at the door, in order, then the rows.
+-- `paint` meets its contract: the tests at the door, then the rows.
 use native.Mathlib.Omega.{arith}
 use Rattle.display.proofs.Dots.{all-rows}
-use Rattle.display.proofs.Doors.{painting-0, painting-1, painting-2, painting-drawable, painting-length, row-is}
+use Rattle.display.proofs.Doors.{let-in, painting-0, painting-no, painting-drawable, painting-length, row-is}
 use borrow.Author.Needs.{needs}
 use Rattle.display.proofs.frame.paint.Statement.{statement}
 use Rattle.display.proofs.frame.paint.Tie as tie
@@ -18,38 +18,46 @@ row-size-requires c κs = search needs
 frame-size-requires : tie.Need-frame-size-requires
 frame-size-requires c κs = search needs
 
-mul-rows : tie.Need-mul-rows
-mul-rows c =
-    let a = c .before .before .before .before .before .before .before .before .before .before .before .args in
-    let d = painting-drawable (a .panel) (a .registers) (a .mem .now) (a .rom .now) (a .frame .now) (c .before .before .before .before .before .before .before .valid .ensures) (c .before .before .before .before .before .before .valid2 .ensures) (c .before .before .before .before .before .if1 .taken) (c .before .before .before .frame-size .ensures .0) (c .before .before .if2 .taken) in
+refusal-requires : tie.Need-refusal-requires
+refusal-requires c κs = search needs
+
+mul-paint-some : tie.Need-mul-paint-some
+mul-paint-some c =
+    let a = c .before .before .before .before .before .before .before .before .before .before .args in
+    let i = c .before .before .before .before .before .before .valid .ensures in
+    let j = c .before .before .before .before .before .valid2 .ensures in
+    let m = c .before .before .before .frame-size .ensures .0 in
+    let o = let-in _ _ (c .before .before .refusal .ensures) (c .before .if1 .taken) in
+    let d = painting-drawable (a .panel) (a .registers) (a .mem .now) (a .rom .now) (a .frame .now) i j (o .0) m (o .1) in
     omega (arith, d .lines)
 
 paint-some-requires : tie.Need-paint-some-requires
 paint-some-requires c κs =
-    let a = c .before .before .before .before .before .before .before .before .before .before .before .before .args in
-    let i = c .before .before .before .before .before .before .before .before .valid .ensures in
-    let j = c .before .before .before .before .before .before .before .valid2 .ensures in
-    let e = c .before .before .before .before .before .before .if1 .taken in
-    let k = c .before .before .before .before .before .row-size .ensures in
+    let a = c .before .before .before .before .before .before .before .before .before .before .before .args in
+    let i = c .before .before .before .before .before .before .before .valid .ensures in
+    let j = c .before .before .before .before .before .before .valid2 .ensures in
     let m = c .before .before .before .before .frame-size .ensures .0 in
-    let h = c .before .before .before .if2 .taken in
-    let d = painting-drawable (a .panel) (a .registers) (a .mem .now) (a .rom .now) (a .frame .now) i j e m h in
-    (d, (row-is (a .panel) (a .registers) (a .mem .now) (a .rom .now) (a .frame .now) i j e m k, painting-length (a .panel) (a .registers) (a .mem .now) (a .rom .now) (a .frame .now) i j e m h k, omega (arith, d .lines)))
+    let o = let-in _ _ (c .before .before .before .refusal .ensures) (c .before .before .if1 .taken) in
+    let k = c .before .before .before .before .before .row-size .ensures in
+    let d = painting-drawable (a .panel) (a .registers) (a .mem .now) (a .rom .now) (a .frame .now) i j (o .0) m (o .1) in
+    (d, (row-is (a .panel) (a .registers) (a .mem .now) (a .rom .now) (a .frame .now) i j (o .0) m k, painting-length (a .panel) (a .registers) (a .mem .now) (a .rom .now) (a .frame .now) i j (o .0) m (o .1) k, omega (arith, d .lines)))
 
 same-length : tie.Need-same-length
 same-length c = search needs
 
 returns : tie.Need-returns
 returns c =
-    let a = c .before .before .before .before .before .before .before .before .before .before .before .before .before .before .before .args in
-    painting-0 (a .panel) (a .registers) (a .mem .now) (a .rom .now) (a .frame .now) (c .before .before .before .before .before .before .before .before .before .before .before .valid .ensures) (c .before .before .before .before .before .before .before .before .before .before .valid2 .ensures) (c .before .before .before .before .before .before .before .before .before .if1 .taken) (c .before .before .before .before .before .before .before .frame-size .ensures .0) (c .before .before .before .before .before .before .if2 .taken)
-    (all-rows (a .panel) (a .registers .display) (a .mem .now) (a .rom .now) (c .before .before .paint-some .ensures))
+    let a = c .before .before .before .before .before .before .before .before .before .before .before .before .before .before .args in
+    let i = c .before .before .before .before .before .before .before .before .before .before .valid .ensures in
+    let j = c .before .before .before .before .before .before .before .before .before .valid2 .ensures in
+    let m = c .before .before .before .before .before .before .before .frame-size .ensures .0 in
+    let o = let-in _ _ (c .before .before .before .before .before .before .refusal .ensures) (c .before .before .before .before .before .if1 .taken) in
+    painting-0 (a .panel) (a .registers) (a .mem .now) (a .rom .now) (a .frame .now) i j (o .0) m (o .1) (c .before .before .before .before .before .if1 .taken) (all-rows (a .panel) (a .registers .display) (a .mem .now) (a .rom .now) (c .before .before .paint-some .ensures))
 
 returns-2 : tie.Need-returns-2
-returns-2 c = painting-2 _ _ _ _ _ (c .before .before .before .before .before .valid .ensures) (c .before .before .before .before .valid2 .ensures) (c .before .before .before .if1 .taken) (c .before .frame-size .ensures .0) (c .if2 .left)
-
-returns-3 : tie.Need-returns-3
-returns-3 c = painting-1 _ _ _ _ _ (c .before .before .valid .ensures) (c .before .valid2 .ensures) (c .if1 .left)
+returns-2 c =
+    let a = c .before .before .before .before .before .before .before .before .before .args in
+    painting-no (a .panel) (a .registers) (a .mem .now) (a .rom .now) (a .frame .now) (c .before .before .before .before .before .valid .ensures) (c .before .before .before .before .valid2 .ensures) (c .before .before .frame-size .ensures .0) (c .before .refusal .ensures) (c .if1 .left)
 
 pub paint-spec : {M : Type 1} → statement M
 paint-spec =
@@ -59,9 +67,9 @@ paint-spec =
     valid-requires-2
     row-size-requires
     frame-size-requires
-    mul-rows
+    refusal-requires
+    mul-paint-some
     paint-some-requires
     same-length
     returns
-    returns-2
-    returns-3)
+    returns-2)

@@ -1,7 +1,7 @@
 -- `lay` meets its contract: the text, given out, the graphic, given out, and both mixed.
 use mathlib.Core.Path.{refl}
 use Prim.Native.Nat.{ℕ, _+_}
-use Rattle.display.specs.Displayed.{textDots}
+use Rattle.display.specs.Displayed.{textDots, displayedByte}
 use Rattle.display.proofs.Passes.{own-count, same-count, front-of}
 use borrow.Author.Needs.{needs}
 use Rattle.display.proofs.layers.lay.Statement.{statement}
@@ -33,7 +33,8 @@ returns c =
     let s = c .before .before .before .before .before .before .before .before .before .before .before .before .before .before .before .before .before .before .before .before .before .before .before in
     let a = s .args in
     let text : ℕ → ℕ = λ j. textDots (a .panel) (a .display) (a .mem .now) (a .rom .now) (a .row) (a .column + j) in
-    (front-of text _ _ (a .text .now) (c .before .before .before .before .before .before .before .before .before .before .before .before .before .before .before .lay-text .ensures) (s .pre .1 .1) (c .before .before .before .before .before .before .before .before .before .before .give-text .ensures), (c .before .before .before .before .before .before .give-graphic .ensures, same-count text _ (a .shown .now) _ refl (c .before .before .before .before .before .before .before .before .before .before .before .before .before .before .before .lay-text .ensures) (c .before .before .lay-graphic .ensures)))
+    let shown : ℕ → ℕ = λ j. displayedByte (a .panel) (a .display) (a .mem .now) (a .rom .now) (a .row) (a .column + j) in
+    (front-of text _ _ (a .text .now) (c .before .before .before .before .before .before .before .before .before .before .before .before .before .before .before .lay-text .ensures) (s .pre .1 .1) (c .before .before .before .before .before .before .before .before .before .before .give-text .ensures), (c .before .before .before .before .before .before .give-graphic .ensures, same-count text shown (a .shown .now) (c .before .before .before .before .before .before .before .before .before .before .before .before .before .before .before .lay-text .last .1 .1 .1 .1 .1 .1 .1 .0) refl (c .before .before .before .before .before .before .before .before .before .before .before .before .before .before .before .lay-text .ensures) (c .before .before .lay-graphic .ensures)))
 
 pub lay-spec : {M : Type 1} → statement M
 lay-spec =

@@ -1,5 +1,6 @@
--- `row_layers` meets its contract: the tests at the door, in order, then the layers.
-use Rattle.display.proofs.Asked.{asked-0, asked-1, asked-2, asked-room, asked-drawable}
+-- `row_layers` meets its contract: the tests at the door, then the layers.
+use Rattle.display.proofs.Doors.{let-in}
+use Rattle.display.proofs.Asked.{asked-0, asked-no, asked-room, asked-drawable}
 use borrow.Author.Needs.{needs}
 use Rattle.display.proofs.seen.row_layers.Statement.{statement}
 use Rattle.display.proofs.seen.row_layers.Tie as tie
@@ -10,10 +11,16 @@ valid-requires c κs = search needs
 valid-requires-2 : tie.Need-valid-requires-2
 valid-requires-2 c κs = search needs
 
+refusal-requires : tie.Need-refusal-requires
+refusal-requires c κs = search needs
+
 tables-requires : tie.Need-tables-requires
 tables-requires c κs =
     let a = c .before .before .before .before .before .before .before .before .before .args in
-    asked-drawable (a .panel) (a .display) (a .mem .now) (a .rom .now) (a .row) (a .column) (a .text .now) (a .graphic .now) (a .shown .now) (c .before .before .before .valid .ensures) (c .before .before .valid2 .ensures) (c .before .if1 .taken) (c .if2 .taken) .width
+    let i = c .before .before .before .valid .ensures in
+    let j = c .before .before .valid2 .ensures in
+    let o = let-in _ _ (c .before .refusal .ensures) (c .if1 .taken) in
+    asked-drawable (a .panel) (a .display) (a .mem .now) (a .rom .now) (a .row) (a .column) (a .text .now) (a .graphic .now) (a .shown .now) i j (o .0) (o .1) .width
 
 slice-aggregate-lay : tie.Need-slice-aggregate-lay
 slice-aggregate-lay c = c .before .tables .ensures .1
@@ -23,9 +30,8 @@ lay-requires c κs =
     let a = c .before .before .before .before .before .before .before .before .before .before .before .before .before .before .args in
     let i = c .before .before .before .before .before .before .before .before .valid .ensures in
     let j = c .before .before .before .before .before .before .before .valid2 .ensures in
-    let e = c .before .before .before .before .before .before .if1 .taken in
-    let l = c .before .before .before .before .before .if2 .taken in
-    (asked-drawable (a .panel) (a .display) (a .mem .now) (a .rom .now) (a .row) (a .column) (a .text .now) (a .graphic .now) (a .shown .now) i j e l, (c .before .before .before .before .tables .ensures .0, asked-room (a .panel) (a .display) (a .mem .now) (a .rom .now) (a .row) (a .column) (a .text .now) (a .graphic .now) (a .shown .now) i j e l))
+    let o = let-in _ _ (c .before .before .before .before .before .before .refusal .ensures) (c .before .before .before .before .before .if1 .taken) in
+    (asked-drawable (a .panel) (a .display) (a .mem .now) (a .rom .now) (a .row) (a .column) (a .text .now) (a .graphic .now) (a .shown .now) i j (o .0) (o .1), (c .before .before .before .before .tables .ensures .0, asked-room (a .panel) (a .display) (a .mem .now) (a .rom .now) (a .row) (a .column) (a .text .now) (a .graphic .now) (a .shown .now) i j (o .0) (o .1)))
 
 same-length : tie.Need-same-length
 same-length c = search needs
@@ -39,18 +45,16 @@ same-length-3 c = search needs
 returns : tie.Need-returns
 returns c =
     let a = c .before .before .before .before .before .before .before .before .before .before .before .before .before .before .before .before .before .before .before .before .before .args in
+    let i = c .before .before .before .before .before .before .before .before .before .before .before .before .before .before .before .valid .ensures in
+    let j = c .before .before .before .before .before .before .before .before .before .before .before .before .before .before .valid2 .ensures in
+    let o = let-in _ _ (c .before .before .before .before .before .before .before .before .before .before .before .before .before .refusal .ensures) (c .before .before .before .before .before .before .before .before .before .before .before .before .if1 .taken) in
     let l = c .before .before .before .before .before .before .lay in
-    asked-0 (a .panel) (a .display) (a .mem .now) (a .rom .now) (a .row) (a .column) (a .text .now) (a .graphic .now) (a .shown .now) (c .before .before .before .before .before .before .before .before .before .before .before .before .before .before .before .valid .ensures) (c .before .before .before .before .before .before .before .before .before .before .before .before .before .before .valid2 .ensures) (c .before .before .before .before .before .before .before .before .before .before .before .before .before .if1 .taken) (c .before .before .before .before .before .before .before .before .before .before .before .before .if2 .taken) (l .ensures .0) (l .ensures .1 .0) (l .ensures .1 .1)
+    asked-0 (a .panel) (a .display) (a .mem .now) (a .rom .now) (a .row) (a .column) (a .text .now) (a .graphic .now) (a .shown .now) i j (o .0) (o .1) {t = l .last .1 .1 .1 .1 .1 .1 .1 .0} (c .before .before .before .before .before .before .before .before .before .before .before .before .if1 .taken) (l .ensures .0) (l .ensures .1 .0) (l .ensures .1 .1)
 
 returns-2 : tie.Need-returns-2
 returns-2 c =
     let a = c .before .before .before .before .before .before .before .before .before .args in
-    asked-2 (a .panel) (a .display) (a .mem .now) (a .rom .now) (a .row) (a .column) (a .text .now) (a .graphic .now) (a .shown .now) (c .before .before .before .valid .ensures) (c .before .before .valid2 .ensures) (c .before .if1 .taken) (c .if2 .left)
-
-returns-3 : tie.Need-returns-3
-returns-3 c =
-    let a = c .before .before .before .before .before .before .before .before .args in
-    asked-1 (a .panel) (a .display) (a .mem .now) (a .rom .now) (a .row) (a .column) (a .text .now) (a .graphic .now) (a .shown .now) (c .before .before .valid .ensures) (c .before .valid2 .ensures) (c .if1 .left)
+    asked-no (a .panel) (a .display) (a .mem .now) (a .rom .now) (a .row) (a .column) (a .text .now) (a .graphic .now) (a .shown .now) (c .before .before .before .valid .ensures) (c .before .before .valid2 .ensures) (c .before .refusal .ensures) (c .if1 .left)
 
 pub row-layers-spec : {M : Type 1} → statement M
 row-layers-spec =
@@ -58,6 +62,7 @@ row-layers-spec =
     (tie.spec
     valid-requires
     valid-requires-2
+    refusal-requires
     tables-requires
     slice-aggregate-lay
     lay-requires
@@ -65,5 +70,4 @@ row-layers-spec =
     same-length-2
     same-length-3
     returns
-    returns-2
-    returns-3)
+    returns-2)
