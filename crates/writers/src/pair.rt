@@ -6,8 +6,10 @@ ghost use Rattle.controller.specs.Access.{stepOf};
 ghost use Rattle.controller.specs.Ready.{Runs};
 ghost use Rattle.writers.specs.Ready.{noting, Says, behind, behindBy};
 use super::note::hold;
+use super::note::note;
 use super::note::note_all;
-use super::note::note_one;
+use super::note::single;
+use super::note::when;
 use single::access::access;
 use state::panel::Panel;
 use state::registers::Bus;
@@ -47,9 +49,10 @@ pub(crate) fn say(
 {
     let was = mem[bus.pointer as usize];
     let told = tell(bus, mem, quiet & (code / 16 != 14), code);
-    if told.done {
-        let noted = note_one(list, count, pair, bus.pointer, was, mem, code, first, last);
-        let next = told.bus;
+    let next = told.bus;
+    if told.done & (single(code) == 1) {
+        let after = mem[bus.pointer as usize];
+        let noted = note(list, count, pair, bus.pointer, was, after, first, last);
         return Said {
             bus: next,
             count: noted,
@@ -57,9 +60,9 @@ pub(crate) fn say(
         };
     }
     Said {
-        bus,
+        bus: next,
         count,
-        done: false,
+        done: told.done,
     }
 }
 
@@ -87,27 +90,11 @@ pub(crate) fn through(
     let acted = access(panel, registers, mem, rom, kind, byte);
     let next = acted.registers.display;
     let then = acted.registers.bus;
-    if acted.number == 0 {
-        let noted = note_all(
-            list,
-            count,
-            pair,
-            bus.pointer,
-            all,
-            &before,
-            mem,
-            first,
-            last,
-        );
-        return Gone {
-            display: next,
-            bus: then,
-            count: noted,
-        };
-    }
+    let stored = when(acted.number == 0, all);
+    let noted = note_all(list, count, pair, bus.pointer, stored, &before, mem, first, last);
     Gone {
         display: next,
         bus: then,
-        count,
+        count: noted,
     }
 }
