@@ -250,9 +250,11 @@ module _ {p : Panel} {rom log : List ℕ} {total : ℕ} {s₀ : Standing (Skippi
   now-at = onSkips (standingFlags r mem flags answers given) skips listed i
 
   pub flagging-ends : total ≤ i
-      → ranFlags (record { ran = record { number = 0; place = 0; taken = i; answers = given; registers = r }; skipped = listed }) mem answers skips flags
-      ≡ ranFlagsOf (runFrom stepsOn 0 (take total (pairsOf log)) s₀)
-  flagging-ends h = ap ranFlagsOf (going-ends stepsOn Sort (flag-sound p rom _) (g .goes-on) h)
+      → {y : RanOn} → y ≡ record { ran = record { number = 0; place = 0; taken = i; answers = given; registers = r }; skipped = listed }
+      → ranFlags y mem answers skips flags ≡ ranFlagsOf (runFrom stepsOn 0 (take total (pairsOf log)) s₀)
+  flagging-ends h e =
+      ap (λ (o : RanOn). ranFlags o mem answers skips flags) e
+      ∙ ap ranFlagsOf (going-ends stepsOn Sort (flag-sound p rom _) (g .goes-on) h)
 
   pub may-follow : validPanel p ≡ true → length rom ≡ 1024 → Following p r mem rom flags
   may-follow v l =
@@ -278,9 +280,9 @@ module _ {p : Panel} {rom log : List ℕ} {total : ℕ} {s₀ : Standing (Skippi
         go (halted (suc n)) y u ends z w = absurd (let q : ⊥ = omega (arith, z) in q)
 
     pub flagging-stops : (x .number ≡ 0 → ⊥)
-        → ranFlags (record { ran = record { number = x .number; place = i; taken = i; answers = t .given; registers = t .registers }; skipped = x .listed }) m a b f
-        ≡ ranFlagsOf (runFrom stepsOn 0 (take total (pairsOf log)) s₀)
-    flagging-stops z = go _ _ _ comes z refl
+        → {y : RanOn} → y ≡ record { ran = record { number = x .number; place = i; taken = i; answers = t .given; registers = t .registers }; skipped = x .listed }
+        → ranFlags y m a b f ≡ ranFlagsOf (runFrom stepsOn 0 (take total (pairsOf log)) s₀)
+    flagging-stops z e = ap (λ (o : RanOn). ranFlags o m a b f) e ∙ go _ _ _ comes z refl
       where
         go : (o : Turn (Skipping Flagged)) (y : TurnedFlags) (u : NotedAll) → Came now-at o y u → (u .noted .number ≡ 0 → ⊥)
             → turnOf now-at (stepsOn (now-at .machine) (pairAt log i)) ≡ o

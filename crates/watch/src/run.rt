@@ -207,6 +207,29 @@ fn at_once(registers: Registers, kind: u8, byte: u8) -> Quick
     }
 }
 
+// What a run answers, part by part.
+fn ended(
+    number: u8,
+    place: usize,
+    taken: usize,
+    answers: usize,
+    registers: Registers,
+    skipped: usize,
+) -> RanOn
+    ensures { λ r. ⌜ r ≡ record { ran = record { number = number; place = place; taken = taken; answers = answers; registers = registers }; skipped = skipped } ⌝ }
+{
+    RanOn {
+        ran: Ran {
+            number,
+            place,
+            taken,
+            answers,
+            registers,
+        },
+        skipped,
+    }
+}
+
 // The first `total` pairs of a log, on what is known to be valid.
 fn pairs(
     panel: Panel,
@@ -251,45 +274,11 @@ fn pairs(
         let number = noted.number;
         listed = noted.listed;
         if number != 0 {
-            return RanOn {
-                ran: Ran {
-                    number,
-                    place: i,
-                    taken: i,
-                    answers: given,
-                    registers: state,
-                },
-                skipped: listed,
-            };
+            return ended(number, i, i, given, state, listed);
         }
         i += 1;
     }
-    RanOn {
-        ran: Ran {
-            number: 0,
-            place: 0,
-            taken: i,
-            answers: given,
-            registers: state,
-        },
-        skipped: listed,
-    }
-}
-
-// No pair taken.
-fn none_taken(number: u8, place: usize, registers: Registers) -> RanOn
-    ensures { λ r. ⌜ r ≡ record { ran = record { number = number; place = place; taken = 0; answers = 0; registers = registers }; skipped = 0 } ⌝ }
-{
-    RanOn {
-        ran: Ran {
-            number,
-            place,
-            taken: 0,
-            answers: 0,
-            registers,
-        },
-        skipped: 0,
-    }
+    ended(0, 0, i, given, state, listed)
 }
 
 // At most `limit` pairs of a log, refused ones skipped and listed.
@@ -307,30 +296,27 @@ pub fn run(
     ensures { λ r. ⌜ ranFlags r (now (mem .exit)) (now (answers .exit)) (now (skips .exit)) (now (flags .exit)) ≡ flagRunOf panel registers (now (mem .entry)) (now (rom .entry)) (now (log .entry)) limit (now (answers .entry)) (now (skips .entry)) (now (flags .entry)) ⌝ }
 {
     let valid = panel.valid() & registers.valid();
-    if valid {
-        let fits = (mem.len() == 65536) & (rom.len() == 1024) & (flags.len() == 8 * panel.lines);
-        if fits {
-            let whole = log.len() / 2;
-            if log.len() % 2 == 0 {
-                let total = lesser(limit, whole);
-                pairs(
-                    panel,
-                    registers,
-                    mem,
-                    rom,
-                    log,
-                    total,
-                    answers,
-                    skips,
-                    flags,
-                )
-            } else {
-                none_taken(8, whole, registers)
-            }
-        } else {
-            none_taken(2, 0, registers)
-        }
-    } else {
-        none_taken(1, 0, registers)
+    if !valid {
+        return ended(1, 0, 0, 0, registers, 0);
     }
+    let fits = (mem.len() == 65536) & (rom.len() == 1024) & (flags.len() == 8 * panel.lines);
+    if !fits {
+        return ended(2, 0, 0, 0, registers, 0);
+    }
+    let whole = log.len() / 2;
+    if log.len() % 2 != 0 {
+        return ended(8, whole, 0, 0, registers, 0);
+    }
+    let total = lesser(limit, whole);
+    pairs(
+        panel,
+        registers,
+        mem,
+        rom,
+        log,
+        total,
+        answers,
+        skips,
+        flags,
+    )
 }

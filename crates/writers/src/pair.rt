@@ -91,7 +91,17 @@ pub(crate) fn through(
     let next = acted.registers.display;
     let then = acted.registers.bus;
     let stored = when(acted.number == 0, all);
-    let noted = note_all(list, count, pair, bus.pointer, stored, &before, mem, first, last);
+    let noted = note_all(
+        list,
+        count,
+        pair,
+        bus.pointer,
+        stored,
+        &before,
+        mem,
+        first,
+        last,
+    );
     Gone {
         display: next,
         bus: then,

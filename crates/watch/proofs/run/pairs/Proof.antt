@@ -87,32 +87,35 @@ turn-requires c κs =
 note-requires : tie.Need-note-requires Inv-loop μ-loop
 note-requires c κs = search needs
 
+ended-requires : tie.Need-ended-requires Inv-loop μ-loop
+ended-requires c κs = search needs
+
 same-length : tie.Need-same-length Inv-loop μ-loop
 same-length c =
-    let k = c .before .before .before .before .before .before .before .before .before .before .before .before .before .before .before .before .before .before .before .before .before .before .before .before .before .before .before .before .before .before .before in
+    let k = c .before .before .before .before .before .before .before .before .before .before .before .before .before .before .before .before .before .before .before .before .before .before .before .before .before .before .before .before .before .before .before .before in
     let s = k .args in
-    omega (arith, c .before .before .before .before .before .before .before .before .before .before .before .before .turn .kept, c .before .before .before .note .kept, c .before .before .before .before .before .before .before .before .before .before .before .before .before .before .before .before .before .before .before .before .before .before .before .before .loop .inv .goes-on .sound .sound .memory, c .before .before .before .before .before .before .before .before .before .before .before .before .before .before .before .before .before .before .before .before .before .before .before .before .loop .inv .goes-on .room, c .before .before .before .before .before .before .before .before .before .before .before .before .before .before .before .before .before .before .before .before .before .before .before .before .loop .inv .goes-on .sound .lists, c .before .before .before .before .before .before .before .before .before .before .before .before .before .before .before .before .before .before .before .before .before .before .before .before .loop .inv .goes-on .sound .long, k .pre .0 .rows, whole-memory (s .panel) (s .registers) (s .mem .now) (s .rom .now) (s .flags .now) (record { kind = 0; byte = 0 }) (k .pre .0))
+    omega (arith, c .before .before .before .before .before .before .before .before .before .before .before .before .before .turn .kept, c .before .before .before .before .note .kept, c .before .before .before .before .before .before .before .before .before .before .before .before .before .before .before .before .before .before .before .before .before .before .before .before .before .loop .inv .goes-on .sound .sound .memory, c .before .before .before .before .before .before .before .before .before .before .before .before .before .before .before .before .before .before .before .before .before .before .before .before .before .loop .inv .goes-on .room, c .before .before .before .before .before .before .before .before .before .before .before .before .before .before .before .before .before .before .before .before .before .before .before .before .before .loop .inv .goes-on .sound .lists, c .before .before .before .before .before .before .before .before .before .before .before .before .before .before .before .before .before .before .before .before .before .before .before .before .before .loop .inv .goes-on .sound .long, k .pre .0 .rows, whole-memory (s .panel) (s .registers) (s .mem .now) (s .rom .now) (s .flags .now) (record { kind = 0; byte = 0 }) (k .pre .0))
 
 same-length-2 : tie.Need-same-length-2 Inv-loop μ-loop
 same-length-2 c =
-    let k = c .before .before .before .before .before .before .before .before .before .before .before .before .before .before .before .before .before .before .before .before .before .before .before .before .before .before .before .before .before .before .before in
+    let k = c .before .before .before .before .before .before .before .before .before .before .before .before .before .before .before .before .before .before .before .before .before .before .before .before .before .before .before .before .before .before .before .before in
     let s = k .args in
-    omega (arith, c .before .before .before .before .before .before .before .before .before .before .before .before .turn .kept, c .before .before .before .note .kept, c .before .before .before .before .before .before .before .before .before .before .before .before .before .before .before .before .before .before .before .before .before .before .before .before .loop .inv .goes-on .sound .sound .memory, c .before .before .before .before .before .before .before .before .before .before .before .before .before .before .before .before .before .before .before .before .before .before .before .before .loop .inv .goes-on .room, c .before .before .before .before .before .before .before .before .before .before .before .before .before .before .before .before .before .before .before .before .before .before .before .before .loop .inv .goes-on .sound .lists, c .before .before .before .before .before .before .before .before .before .before .before .before .before .before .before .before .before .before .before .before .before .before .before .before .loop .inv .goes-on .sound .long, k .pre .0 .rows, whole-memory (s .panel) (s .registers) (s .mem .now) (s .rom .now) (s .flags .now) (record { kind = 0; byte = 0 }) (k .pre .0))
+    omega (arith, c .before .before .before .before .before .before .before .before .before .before .before .before .before .turn .kept, c .before .before .before .before .note .kept, c .before .before .before .before .before .before .before .before .before .before .before .before .before .before .before .before .before .before .before .before .before .before .before .before .before .loop .inv .goes-on .sound .sound .memory, c .before .before .before .before .before .before .before .before .before .before .before .before .before .before .before .before .before .before .before .before .before .before .before .before .before .loop .inv .goes-on .room, c .before .before .before .before .before .before .before .before .before .before .before .before .before .before .before .before .before .before .before .before .before .before .before .before .before .loop .inv .goes-on .sound .lists, c .before .before .before .before .before .before .before .before .before .before .before .before .before .before .before .before .before .before .before .before .before .before .before .before .before .loop .inv .goes-on .sound .long, k .pre .0 .rows, whole-memory (s .panel) (s .registers) (s .mem .now) (s .rom .now) (s .flags .now) (record { kind = 0; byte = 0 }) (k .pre .0))
 
 same-length-3 : tie.Need-same-length-3 Inv-loop μ-loop
 same-length-3 c =
-    let k = c .before .before .before .before .before .before .before .before .before .before .before .before .before .before .before .before .before .before .before .before .before .before .before .before .before .before .before .before .before .before .before in
+    let k = c .before .before .before .before .before .before .before .before .before .before .before .before .before .before .before .before .before .before .before .before .before .before .before .before .before .before .before .before .before .before .before .before in
     let s = k .args in
-    omega (arith, c .before .before .before .before .before .before .before .before .before .before .before .before .turn .kept, c .before .before .before .note .kept, c .before .before .before .before .before .before .before .before .before .before .before .before .before .before .before .before .before .before .before .before .before .before .before .before .loop .inv .goes-on .sound .sound .memory, c .before .before .before .before .before .before .before .before .before .before .before .before .before .before .before .before .before .before .before .before .before .before .before .before .loop .inv .goes-on .room, c .before .before .before .before .before .before .before .before .before .before .before .before .before .before .before .before .before .before .before .before .before .before .before .before .loop .inv .goes-on .sound .lists, c .before .before .before .before .before .before .before .before .before .before .before .before .before .before .before .before .before .before .before .before .before .before .before .before .loop .inv .goes-on .sound .long, k .pre .0 .rows, whole-memory (s .panel) (s .registers) (s .mem .now) (s .rom .now) (s .flags .now) (record { kind = 0; byte = 0 }) (k .pre .0))
+    omega (arith, c .before .before .before .before .before .before .before .before .before .before .before .before .before .turn .kept, c .before .before .before .before .note .kept, c .before .before .before .before .before .before .before .before .before .before .before .before .before .before .before .before .before .before .before .before .before .before .before .before .before .loop .inv .goes-on .sound .sound .memory, c .before .before .before .before .before .before .before .before .before .before .before .before .before .before .before .before .before .before .before .before .before .before .before .before .before .loop .inv .goes-on .room, c .before .before .before .before .before .before .before .before .before .before .before .before .before .before .before .before .before .before .before .before .before .before .before .before .before .loop .inv .goes-on .sound .lists, c .before .before .before .before .before .before .before .before .before .before .before .before .before .before .before .before .before .before .before .before .before .before .before .before .before .loop .inv .goes-on .sound .long, k .pre .0 .rows, whole-memory (s .panel) (s .registers) (s .mem .now) (s .rom .now) (s .flags .now) (record { kind = 0; byte = 0 }) (k .pre .0))
 
 same-length-4 : tie.Need-same-length-4 Inv-loop μ-loop
 same-length-4 c =
-    let k = c .before .before .before .before .before .before .before .before .before .before .before .before .before .before .before .before .before .before .before .before .before .before .before .before .before .before .before .before .before .before .before in
+    let k = c .before .before .before .before .before .before .before .before .before .before .before .before .before .before .before .before .before .before .before .before .before .before .before .before .before .before .before .before .before .before .before .before in
     let s = k .args in
-    omega (arith, c .before .before .before .before .before .before .before .before .before .before .before .before .turn .kept, c .before .before .before .note .kept, c .before .before .before .before .before .before .before .before .before .before .before .before .before .before .before .before .before .before .before .before .before .before .before .before .loop .inv .goes-on .sound .sound .memory, c .before .before .before .before .before .before .before .before .before .before .before .before .before .before .before .before .before .before .before .before .before .before .before .before .loop .inv .goes-on .room, c .before .before .before .before .before .before .before .before .before .before .before .before .before .before .before .before .before .before .before .before .before .before .before .before .loop .inv .goes-on .sound .lists, c .before .before .before .before .before .before .before .before .before .before .before .before .before .before .before .before .before .before .before .before .before .before .before .before .loop .inv .goes-on .sound .long, k .pre .0 .rows, whole-memory (s .panel) (s .registers) (s .mem .now) (s .rom .now) (s .flags .now) (record { kind = 0; byte = 0 }) (k .pre .0))
+    omega (arith, c .before .before .before .before .before .before .before .before .before .before .before .before .before .turn .kept, c .before .before .before .before .note .kept, c .before .before .before .before .before .before .before .before .before .before .before .before .before .before .before .before .before .before .before .before .before .before .before .before .before .loop .inv .goes-on .sound .sound .memory, c .before .before .before .before .before .before .before .before .before .before .before .before .before .before .before .before .before .before .before .before .before .before .before .before .before .loop .inv .goes-on .room, c .before .before .before .before .before .before .before .before .before .before .before .before .before .before .before .before .before .before .before .before .before .before .before .before .before .loop .inv .goes-on .sound .lists, c .before .before .before .before .before .before .before .before .before .before .before .before .before .before .before .before .before .before .before .before .before .before .before .before .before .loop .inv .goes-on .sound .long, k .pre .0 .rows, whole-memory (s .panel) (s .registers) (s .mem .now) (s .rom .now) (s .flags .now) (record { kind = 0; byte = 0 }) (k .pre .0))
 
 returns : tie.Need-returns Inv-loop μ-loop
-returns c = flagging-stops (c .before .before .before .before .before .before .before .before .before .before .before .before .before .before .before .before .before .before .before .before .before .before .before .before .loop .inv) (c .before .before .before .before .before .before .before .before .before .before .before .before .before .before .before .before .before .before .before .before .before .before .before .loop-test .taken) (c .before .before .before .before .before .before .before .before .before .before .before .before .before .before .before .before .before .before .before .before .before .before .before .before .before .before .before .before .before .before .before .pre .1) (c .before .before .before .before .before .before .before .before .before .before .before .before .turn .ensures) (c .before .before .before .note .ensures) (c .if3 .taken)
+returns c = flagging-stops (c .before .before .before .before .before .before .before .before .before .before .before .before .before .before .before .before .before .before .before .before .before .before .before .before .before .loop .inv) (c .before .before .before .before .before .before .before .before .before .before .before .before .before .before .before .before .before .before .before .before .before .before .before .before .loop-test .taken) (c .before .before .before .before .before .before .before .before .before .before .before .before .before .before .before .before .before .before .before .before .before .before .before .before .before .before .before .before .before .before .before .before .pre .1) (c .before .before .before .before .before .before .before .before .before .before .before .before .before .turn .ensures) (c .before .before .before .before .note .ensures) (c .before .if3 .taken) (c .ended .ensures)
 
 add-i-2 : tie.Need-add-i-2 Inv-loop μ-loop
 add-i-2 c = omega (arith, c .before .before .before .before .before .before .before .before .before .before .before .before .before .before .before .before .before .before .before .before .before .before .before .loop-test .taken, c .before .before .before .before .before .before .before .before .before .before .before .before .before .before .before .before .before .before .before .before .before .before .before .before .before .before .before .before .before .before .before .fits .total)
@@ -123,32 +126,35 @@ loop-less-3 c = omega (arith, c .before .before .before .before .before .before 
 loop-again-3 : tie.Need-loop-again-3 Inv-loop μ-loop
 loop-again-3 c = flagging-on (c .before .before .before .before .before .before .before .before .before .before .before .before .before .before .before .before .before .before .before .before .before .before .before .before .loop .inv) (c .before .before .before .before .before .before .before .before .before .before .before .before .before .before .before .before .before .before .before .before .before .before .before .loop-test .taken) (c .before .before .before .before .before .before .before .before .before .before .before .before .before .before .before .before .before .before .before .before .before .before .before .before .before .before .before .before .before .before .before .pre .1) (c .before .before .before .before .before .before .before .before .before .before .before .before .turn .ensures) (c .before .before .before .note .ensures) (c .if3 .left)
 
+ended-requires-2 : tie.Need-ended-requires-2 Inv-loop μ-loop
+ended-requires-2 c κs = search needs
+
 same-length-5 : tie.Need-same-length-5 Inv-loop μ-loop
 same-length-5 c =
-    let k = c .before .before .before .before .before .before .before .before in
+    let k = c .before .before .before .before .before .before .before .before .before in
     let s = k .args in
-    omega (arith, c .before .loop .inv .goes-on .sound .sound .memory, c .before .loop .inv .goes-on .room, c .before .loop .inv .goes-on .sound .lists, c .before .loop .inv .goes-on .sound .long, k .pre .0 .rows, whole-memory (s .panel) (s .registers) (s .mem .now) (s .rom .now) (s .flags .now) (record { kind = 0; byte = 0 }) (k .pre .0))
+    omega (arith, c .before .before .loop .inv .goes-on .sound .sound .memory, c .before .before .loop .inv .goes-on .room, c .before .before .loop .inv .goes-on .sound .lists, c .before .before .loop .inv .goes-on .sound .long, k .pre .0 .rows, whole-memory (s .panel) (s .registers) (s .mem .now) (s .rom .now) (s .flags .now) (record { kind = 0; byte = 0 }) (k .pre .0))
 
 same-length-6 : tie.Need-same-length-6 Inv-loop μ-loop
 same-length-6 c =
-    let k = c .before .before .before .before .before .before .before .before in
+    let k = c .before .before .before .before .before .before .before .before .before in
     let s = k .args in
-    omega (arith, c .before .loop .inv .goes-on .sound .sound .memory, c .before .loop .inv .goes-on .room, c .before .loop .inv .goes-on .sound .lists, c .before .loop .inv .goes-on .sound .long, k .pre .0 .rows, whole-memory (s .panel) (s .registers) (s .mem .now) (s .rom .now) (s .flags .now) (record { kind = 0; byte = 0 }) (k .pre .0))
+    omega (arith, c .before .before .loop .inv .goes-on .sound .sound .memory, c .before .before .loop .inv .goes-on .room, c .before .before .loop .inv .goes-on .sound .lists, c .before .before .loop .inv .goes-on .sound .long, k .pre .0 .rows, whole-memory (s .panel) (s .registers) (s .mem .now) (s .rom .now) (s .flags .now) (record { kind = 0; byte = 0 }) (k .pre .0))
 
 same-length-7 : tie.Need-same-length-7 Inv-loop μ-loop
 same-length-7 c =
-    let k = c .before .before .before .before .before .before .before .before in
+    let k = c .before .before .before .before .before .before .before .before .before in
     let s = k .args in
-    omega (arith, c .before .loop .inv .goes-on .sound .sound .memory, c .before .loop .inv .goes-on .room, c .before .loop .inv .goes-on .sound .lists, c .before .loop .inv .goes-on .sound .long, k .pre .0 .rows, whole-memory (s .panel) (s .registers) (s .mem .now) (s .rom .now) (s .flags .now) (record { kind = 0; byte = 0 }) (k .pre .0))
+    omega (arith, c .before .before .loop .inv .goes-on .sound .sound .memory, c .before .before .loop .inv .goes-on .room, c .before .before .loop .inv .goes-on .sound .lists, c .before .before .loop .inv .goes-on .sound .long, k .pre .0 .rows, whole-memory (s .panel) (s .registers) (s .mem .now) (s .rom .now) (s .flags .now) (record { kind = 0; byte = 0 }) (k .pre .0))
 
 same-length-8 : tie.Need-same-length-8 Inv-loop μ-loop
 same-length-8 c =
-    let k = c .before .before .before .before .before .before .before .before in
+    let k = c .before .before .before .before .before .before .before .before .before in
     let s = k .args in
-    omega (arith, c .before .loop .inv .goes-on .sound .sound .memory, c .before .loop .inv .goes-on .room, c .before .loop .inv .goes-on .sound .lists, c .before .loop .inv .goes-on .sound .long, k .pre .0 .rows, whole-memory (s .panel) (s .registers) (s .mem .now) (s .rom .now) (s .flags .now) (record { kind = 0; byte = 0 }) (k .pre .0))
+    omega (arith, c .before .before .loop .inv .goes-on .sound .sound .memory, c .before .before .loop .inv .goes-on .room, c .before .before .loop .inv .goes-on .sound .lists, c .before .before .loop .inv .goes-on .sound .long, k .pre .0 .rows, whole-memory (s .panel) (s .registers) (s .mem .now) (s .rom .now) (s .flags .now) (record { kind = 0; byte = 0 }) (k .pre .0))
 
 returns-2 : tie.Need-returns-2 Inv-loop μ-loop
-returns-2 c = flagging-ends (c .before .loop .inv) (c .loop-test .left)
+returns-2 c = flagging-ends (c .before .before .loop .inv) (c .before .loop-test .left) (c .ended2 .ensures)
 
 pub pairs-spec : {M : Type 1} → statement M
 pairs-spec =
@@ -174,6 +180,7 @@ pairs-spec =
     loop-again-2
     turn-requires
     note-requires
+    ended-requires
     same-length
     same-length-2
     same-length-3
@@ -182,6 +189,7 @@ pairs-spec =
     add-i-2
     loop-less-3
     loop-again-3
+    ended-requires-2
     same-length-5
     same-length-6
     same-length-7
