@@ -28,7 +28,7 @@ use Rattle.whole.specs.Whole.{RanWhole, ranWhole, withoutAnswers, wholeOf}
 use Rattle.image.specs.Registered.{registerValues}
 use Rattle.comparison.specs.Apart.{dotsApart}
 use Rattle.comparison.specs.Ready.{Few, Pictured, Paints}
-use Rattle.comparison.specs.Verdict.{ComparedAll, comparedAll, uncompared, memoryApart, registersApart, toldOf, listedOf, afterTwo, afterOne, memoriesFit, compareOf}
+use Rattle.comparison.specs.Verdict.{ComparedAll, comparedAll, uncompared, memoryApart, registersApart, toldOf, comparedList, afterTwo, afterOne, memoriesFit, compareOf}
 use Rattle.image.proofs.Registries.{values-length}
 
 -- a run from a valid state leaves one, and a memory of its length
@@ -84,17 +84,17 @@ told-15 e dots h k =
 -- the registers' numbers and the dots, as they are of two machines
 pub lists-both : (list one two : List ℕ) (r q : Registers) (d : ℕ) {a b l : List ℕ} {x : Entered} {y : Compared} {c : ℕ} → a ≡ registerValues r → b ≡ registerValues q → c ≡ d
     → enteredAll x l ≡ enteredOf list (differencesFrom 0 one two) (differencesFrom 0 a b) → y ≡ toldOf x c
-    → comparedAll y one two l ≡ listedOf one two d (enteredOf list (differencesFrom 0 one two) (differencesFrom 0 (registerValues r) (registerValues q)))
+    → comparedAll y one two l ≡ comparedList one two d (enteredOf list (differencesFrom 0 one two) (differencesFrom 0 (registerValues r) (registerValues q)))
 lists-both list one two r q d {l = l} {x} f g h e t =
     ap (λ (z : Compared). comparedAll z one two l) t
-    ∙ ap (λ (n : ℕ). listedOf one two n (enteredAll x l)) h
-    ∙ ap (listedOf one two d) (e ∙ (λ i. enteredOf list (differencesFrom 0 one two) (differencesFrom 0 (f i) (g i))))
+    ∙ ap (λ (n : ℕ). comparedList one two n (enteredAll x l)) h
+    ∙ ap (comparedList one two d) (e ∙ (λ i. enteredOf list (differencesFrom 0 one two) (differencesFrom 0 (f i) (g i))))
 
 -- log two, by its number
 module _ (p : Panel) (rom list : List ℕ) (x : RanWhole) {y : RanWhole} {ran : Ran} {m : List ℕ} (e : ranWhole ran m ≡ y) where
   abbrev lists : RanWhole → ComparedAll
   lists z =
-      listedOf (x .memory) (z .memory) (dotsApart p (x .ran .registers .display) (x .memory) (z .ran .registers .display) (z .memory) rom)
+      comparedList (x .memory) (z .memory) (dotsApart p (x .ran .registers .display) (x .memory) (z .ran .registers .display) (z .memory) rom)
       (enteredOf list (memoryApart x z) (registersApart x z))
 
   second-by : (t : Bool) → eqb (ran .number) 0 ≡ t

@@ -42,14 +42,14 @@ toldOf e dots =
     (record { number = 0; place = 0; log = 0; memory = e .bytes; registers = e .values; dots = dots })
     (uncompared 15 (e .bytes + e .values) 0)
 
-abbrev pub listedOf : List ℕ → List ℕ → ℕ → EnteredAll → ComparedAll
-listedOf one two dots x = comparedAll (toldOf (x .entered) dots) one two (x .list)
+abbrev pub comparedList : List ℕ → List ℕ → ℕ → EnteredAll → ComparedAll
+comparedList one two dots x = comparedAll (toldOf (x .entered) dots) one two (x .list)
 
 -- log two has run in the second memory: every address whose bytes differ, then every register that does
 unfoldable pub afterTwo : Panel → List ℕ → List ℕ → RanWhole → RanWhole → ComparedAll
 afterTwo p rom list a b =
     cond (eqb (b .ran .number) 0)
-    (listedOf (a .memory) (b .memory) (dotsApart p (a .ran .registers .display) (a .memory) (b .ran .registers .display) (b .memory) rom)
+    (comparedList (a .memory) (b .memory) (dotsApart p (a .ran .registers .display) (a .memory) (b .ran .registers .display) (b .memory) rom)
     (enteredOf list (memoryApart a b) (registersApart a b)))
     (comparedAll (uncompared (b .ran .number) (b .ran .place) 2) (a .memory) (b .memory) list)
 

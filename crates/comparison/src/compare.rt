@@ -10,7 +10,7 @@ ghost use Rattle.whole.specs.Whole.{ranWhole, wholeOf};
 ghost use Rattle.image.specs.Registered.{registerValues};
 ghost use Rattle.comparison.specs.Apart.{dotsApart};
 ghost use Rattle.comparison.specs.Ready.{Few, Pictured, Paints};
-ghost use Rattle.comparison.specs.Verdict.{uncompared, comparedAll, toldOf, listedOf, afterTwo, afterOne, compareOf};
+ghost use Rattle.comparison.specs.Verdict.{uncompared, comparedAll, toldOf, comparedList, afterTwo, afterOne, compareOf};
 use super::dots::dots;
 use controller::run::Ran;
 use entries::enter::Entered;
@@ -82,7 +82,7 @@ fn list_all(
     list: &mut [usize],
 ) -> Compared
     requires { ⌜ Pictured panel (first .display) (now one) (second .display) (now two) (now rom) ⌝ }
-    ensures { λ r. ⌜ comparedAll r (now (one .entry)) (now (two .entry)) (now (list .exit)) ≡ listedOf (now (one .entry)) (now (two .entry)) (dotsApart panel (first .display) (now (one .entry)) (second .display) (now (two .entry)) (now (rom .entry))) (enteredOf (now (list .entry)) (differencesFrom 0 (now (one .entry)) (now (two .entry))) (differencesFrom 0 (registerValues first) (registerValues second))) ⌝ }
+    ensures { λ r. ⌜ comparedAll r (now (one .entry)) (now (two .entry)) (now (list .exit)) ≡ comparedList (now (one .entry)) (now (two .entry)) (dotsApart panel (first .display) (now (one .entry)) (second .display) (now (two .entry)) (now (rom .entry))) (enteredOf (now (list .entry)) (differencesFrom 0 (now (one .entry)) (now (two .entry))) (differencesFrom 0 (registerValues first) (registerValues second))) ⌝ }
 {
     let left = first.display;
     let right = second.display;

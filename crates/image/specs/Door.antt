@@ -42,5 +42,5 @@ abbrev pub countsOnOf : ℕ → ℕ → ℕ → ℕ → ℕ → List ℕ → Lis
 countsOnOf n place taken answers skipped k = writtenOf n (place ∷ taken ∷ answers ∷ skipped ∷ []) k
 
 -- of a list of stores: place, entries listed
-abbrev pub entriesOf : ℕ → ℕ → ℕ → List ℕ → List ℕ
-entriesOf n place entries k = writtenOf n (place ∷ entries ∷ []) k
+abbrev pub listCountsOf : ℕ → ℕ → ℕ → List ℕ → List ℕ
+listCountsOf n place entries k = writtenOf n (place ∷ entries ∷ []) k

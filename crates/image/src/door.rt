@@ -1,6 +1,6 @@
 // What each call with registers as bytes does before the controller is asked, and after.
 ghost use mathlib.Core.Path.{_≡_};
-ghost use Rattle.image.specs.Door.{panelOf, doorOf, closes, keptOf, countsOf, countsOnOf, entriesOf};
+ghost use Rattle.image.specs.Door.{panelOf, doorOf, closes, keptOf, countsOf, countsOnOf, listCountsOf};
 use super::image::decode;
 use super::image::encode;
 use super::image::is_readable;
@@ -115,7 +115,7 @@ pub fn count_on(
 
 // The same of a list of stores: its place and its entries.
 pub fn count_entries(number: u8, place: usize, entries: usize, counts: &mut [usize])
-    ensures { λ _. ⌜ now (counts .exit) ≡ entriesOf number place entries (now (counts .entry)) ⌝ }
+    ensures { λ _. ⌜ now (counts .exit) ≡ listCountsOf number place entries (now (counts .entry)) ⌝ }
 {
     if untouched(number) {
         return;

@@ -21,18 +21,18 @@ use Rattle.picture.specs.Picture.{Picture, blank, pictureOf, pictureFrame}
 use Rattle.picture.specs.Ready.{Sized}
 use Rattle.picture.specs.Planned.{Plan, plannedAll, refusedPlan, pictured, areasFit, planScreen, planesOf}
 use Rattle.picture.proofs.Bodies.{all-sized, blank-sized}
-use Rattle.painter.specs.Ready.{Paintable, doorOf}
+use Rattle.painter.specs.Ready.{Paintable, drawDoor}
 use Rattle.painter.specs.Drawn.{Drew, drewAll, planesFit, drawScreen, drawOf}
 
 -- the door's own number
 module _ (p : Panel) (rom frame : ℕ) {v : Bool} (i : v ≡ validPanel p) {size : ℕ} (j : size ≡ validSize p (frameSize p)) where
-  door-by : (a b : Bool) → validPanel p ≡ a → (eqb rom 1024 && eqb frame (frameSize p)) ≡ b → cond a (cond b 0 2) 1 ≡ doorOf p rom frame
+  door-by : (a b : Bool) → validPanel p ≡ a → (eqb rom 1024 && eqb frame (frameSize p)) ≡ b → cond a (cond b 0 2) 1 ≡ drawDoor p rom frame
   door-by a b e f = sym (λ k. cond (e k) (cond (f k) 0 2) 1)
 
-  pub door-1 : not v ≡ true → 1 ≡ doorOf p rom frame
+  pub door-1 : not v ≡ true → 1 ≡ drawDoor p rom frame
   door-1 e = door-by false _ (sym i ∙ not-true v e) refl
 
-  pub door-past : (b : Bool) → not v ≡ false → (eqb rom 1024 && eqb frame size) ≡ b → cond b 0 2 ≡ doorOf p rom frame
+  pub door-past : (b : Bool) → not v ≡ false → (eqb rom 1024 && eqb frame size) ≡ b → cond b 0 2 ≡ drawDoor p rom frame
   door-past b e f =
       let w : validPanel p ≡ true = sym i ∙ not-false v e in
       door-by true b w (ap (λ (n : ℕ). eqb rom 1024 && eqb frame n) (sym (is-size p w j)) ∙ f)
@@ -70,7 +70,7 @@ module _ (p : Panel) (book : List ℕ) (number : ℕ) (rom : List ℕ) (normal :
   unfolding drawOf
   by-panel b e = ap (λ (u : Bool). cond u (past (planesFit p rom g t h && frameFits p f)) (drewAll (replyOf 1) g t h f)) (sym e)
 
-  pub draw-door : {n : ℕ} → n ≡ doorOf p (length rom) (length f) → (n ≡ 0 → ⊥) → drewAll (record { number = n; place = 0 }) g t h f ≡ drawOf p book number rom normal g t h f
+  pub draw-door : {n : ℕ} → n ≡ drawDoor p (length rom) (length f) → (n ≡ 0 → ⊥) → drewAll (record { number = n; place = 0 }) g t h f ≡ drawOf p book number rom normal g t h f
   draw-door {n} e nz = go (validPanel p) outside refl refl e
     where
       go : (a b : Bool) → validPanel p ≡ a → outside ≡ b → n ≡ cond a (cond b 0 2) 1 → drewAll (record { number = n; place = 0 }) g t h f ≡ drawOf p book number rom normal g t h f
@@ -81,7 +81,7 @@ module _ (p : Panel) (book : List ℕ) (number : ℕ) (rom : List ℕ) (normal :
           ∙ by-panel true v
       go false b v o k = ap (λ (m : ℕ). drewAll (replyOf m) g t h f) k ∙ by-panel false v
 
-  module _ {n : ℕ} (e : n ≡ doorOf p (length rom) (length f)) (z : n ≡ 0) where
+  module _ {n : ℕ} (e : n ≡ drawDoor p (length rom) (length f)) (z : n ≡ 0) where
     both-pass : (validPanel p ≡ true) × (outside ≡ true)
     both-pass = go (validPanel p) outside refl refl (sym z ∙ e)
       where

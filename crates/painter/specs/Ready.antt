@@ -22,5 +22,5 @@ pub record OnPanel (p : Panel) (row column : ℕ) : Type 0 where
   pub across : column < p .columns
 
 -- by the panel and the lengths of ROM and frame: 1, 2, or 0
-abbrev pub doorOf : Panel → ℕ → ℕ → ℕ
-doorOf p rom frame = cond (validPanel p) (cond (eqb rom 1024 && eqb frame (frameSize p)) 0 2) 1
+abbrev pub drawDoor : Panel → ℕ → ℕ → ℕ
+drawDoor p rom frame = cond (validPanel p) (cond (eqb rom 1024 && eqb frame (frameSize p)) 0 2) 1

@@ -1,7 +1,7 @@
 // A screen of a book drawn, with no controller.
 ghost use mathlib.Core.Path.{_≡_};
 ghost use lib.ListN.{length};
-ghost use Rattle.painter.specs.Ready.{doorOf};
+ghost use Rattle.painter.specs.Ready.{drawDoor};
 ghost use Rattle.painter.specs.Drawn.{drewAll, drawOf};
 use super::paint::paint_rows;
 use picture::plan::planes;
@@ -11,7 +11,7 @@ use state::reply::Reply;
 
 // The planes' own lengths are tested where they are made.
 fn door(panel: Panel, rom: usize, frame: usize) -> u8
-    ensures { λ r. ⌜ r ≡ doorOf panel rom frame ⌝ }
+    ensures { λ r. ⌜ r ≡ drawDoor panel rom frame ⌝ }
 {
     let valid = panel.valid();
     let size = panel.frame_size();

@@ -29,10 +29,10 @@ use Rattle.usual.proofs.Tells.{leaves}
 use Rattle.stores.specs.Stores.{codeStores, storesOf, fromAddress}
 use Rattle.writers.specs.Types.{Panel, Display, Auto, Off, Write, Read, Bus, Registers, Drawn, Listed, Said}
 use Rattle.writers.specs.Stretch as stretch
-use Rattle.writers.specs.Stretch.{store, inStretch, storeAt, storesIn, numbersOf}
+use Rattle.writers.specs.Stretch.{store, inStretch, storeAt, storesIn, storeNumbers}
 use Rattle.writers.specs.Listing.{Listing, listing, listedBy, listBy, listStep, begunList}
 use Rattle.writers.specs.Listed.{ListedAll, listedAll, unlisted, roomOf, capped, listedOf, listOf}
-use Rattle.writers.specs.Ready.{Noting, noting, notedBy, notedAll, laid, datumAt, Lays, Says, Behind, behind, behindBy, endedOf}
+use Rattle.writers.specs.Ready.{Noting, noting, notedBy, notedEach, laid, datumAt, Lays, Says, Behind, behind, behindBy, endedOf}
 use Rattle.writers.proofs.Notes.{Holds, holds-none, holds-all, notes-none, notes-one, capped-least}
 use Rattle.writers.proofs.Singly.{none-below}
 
@@ -81,7 +81,7 @@ module _ {p : Panel} {rom : List ℕ} {first last : ℕ} {log : List ℕ} {total
   Next r′ m′ list′ count′ = Following p rom first last log total s₀ list₀ r′ m′ list′ count′ (i + 1)
 
   abbrev due : Machine → ℕ → Noting
-  due t k = notedAll first last (storeAt i (machine r m) t) k (noting count list)
+  due t k = notedEach first last (storeAt i (machine r m) t) k (noting count list)
 
   pub memory-long : length m ≡ 65536
   memory-long = g .goes-on .sound .sound .memory
@@ -114,8 +114,8 @@ module _ {p : Panel} {rom : List ℕ} {first last : ℕ} {log : List ℕ} {total
     abbrev ending : Bool → ListedAll
     ending t =
         cond t
-        (listedAll (record { registers = r; number = 0; place = 0; count = length (g .stores) }) m (sets list₀ 0 (numbersOf (g .stores))))
-        (listedAll (record { registers = r; number = 15; place = capped (length (g .stores)); count = roomOf list₀ }) m (sets list₀ 0 (numbersOf (take (roomOf list₀) (g .stores)))))
+        (listedAll (record { registers = r; number = 0; place = 0; count = length (g .stores) }) m (sets list₀ 0 (storeNumbers (g .stores))))
+        (listedAll (record { registers = r; number = 15; place = capped (length (g .stores)); count = roomOf list₀ }) m (sets list₀ 0 (storeNumbers (take (roomOf list₀) (g .stores)))))
 
     room-same : roomOf list ≡ roomOf list₀
     room-same = ap (λ (n : ℕ). n / 4) list-long
@@ -135,7 +135,7 @@ module _ {p : Panel} {rom : List ℕ} {first last : ℕ} {log : List ℕ} {total
         let exact : count ≡ length (g .stores) = g .holds .counts ∙ capped-fits inside in
         let fits : length (g .stores) ≤ roomOf list₀ = subst (λ (n : ℕ). n ≤ roomOf list₀) exact inside in
         (λ t. listedAll (record { registers = r; number = 0; place = 0; count = exact t })
-        m ((g .holds .lists ∙ ap (λ (l : List stretch.Store). sets list₀ 0 (numbersOf l)) (take-all (roomOf list₀) (g .stores) fits)) t))
+        m ((g .holds .lists ∙ ap (λ (l : List stretch.Store). sets list₀ 0 (storeNumbers l)) (take-all (roomOf list₀) (g .stores) fits)) t))
         ∙ ap ending (sym (le-leb (length (g .stores)) (roomOf list₀) fits))
         ∙ ap (listedOf list₀) ended
 
@@ -343,8 +343,8 @@ module _ {p : Panel} {rom : List ℕ} {first last : ℕ} {log : List ℕ} {total
   After b′ m′ x j = Following p rom first last log total s₀ list₀ (record { display = d; bus = b′ }) m′ (x .list) (x .count) j
 
   behind-data : b .auto ≡ Write → b .pointer < 65536 → (k : ℕ) → i + k ≤ total → ((j : ℕ) → j < k → getD log (2 * (i + j)) 0 ≡ 0)
-      → After (withPointer b (fromAddress (b .pointer) k)) (laid log i (b .pointer) m k) (notedAll first last (datumAt log i (b .pointer) m) k (noting count list)) (i + k)
-  unfolding laid notedAll
+      → After (withPointer b (fromAddress (b .pointer) k)) (laid log i (b .pointer) m k) (notedEach first last (datumAt log i (b .pointer) m) k (noting count list)) (i + k)
+  unfolding laid notedEach
   behind-data w low zero h z =
       let e : b .pointer ≡ fromAddress (b .pointer) 0 = omega arith in
       let f : i ≡ i + 0 = omega arith in
@@ -353,8 +353,8 @@ module _ {p : Panel} {rom : List ℕ} {first last : ℕ} {log : List ℕ} {total
       let on = follows-datum (behind-data w low k (omega arith) (λ j q. z j (omega arith))) (omega arith) l w (z k (omega arith)) (omega arith) in
       let e : movedOf Up (fromAddress (b .pointer) k) ≡ fromAddress (b .pointer) (suc k) = omega arith in
       let f : i + k + 1 ≡ i + suc k = omega arith in
-      subst (After (withPointer b (fromAddress (b .pointer) (suc k))) (laid log i (b .pointer) m (suc k)) (notedAll first last (datumAt log i (b .pointer) m) (suc k) (noting count list))) f
-      (subst (λ (n : ℕ). After (withPointer b n) (laid log i (b .pointer) m (suc k)) (notedAll first last (datumAt log i (b .pointer) m) (suc k) (noting count list)) (i + k + 1)) e on)
+      subst (After (withPointer b (fromAddress (b .pointer) (suc k))) (laid log i (b .pointer) m (suc k)) (notedEach first last (datumAt log i (b .pointer) m) (suc k) (noting count list))) f
+      (subst (λ (n : ℕ). After (withPointer b n) (laid log i (b .pointer) m (suc k)) (notedEach first last (datumAt log i (b .pointer) m) (suc k) (noting count list)) (i + k + 1)) e on)
 
   pub follows-data : {w : Bool} → w ≡ isWrite (b .auto) → (eqb (getD log (2 * i) 0) 0 && w) ≡ true → {left : ℕ} → i + left ≤ total → {m′ : List ℕ} {x : Noting} {k : ℕ}
       → Lays first last log i left (b .pointer) m m′ (noting count list) x k → {next : Bus} → next ≡ withPointer b ((b .pointer + k) % 65536)

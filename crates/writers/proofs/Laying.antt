@@ -15,7 +15,7 @@ use Rattle.ground.proofs.Tests.{both, both-left, both-right}
 use Rattle.stores.specs.Stores.{fromAddress}
 use Rattle.writers.specs.Stretch.{Store, store, inStretch}
 use Rattle.writers.specs.Listed.{roomOf, capped}
-use Rattle.writers.specs.Ready.{Noting, noting, entryOf, entered, notedBy, notedAll, Spans, laid, datumAt, Blocks, Fills, Lays}
+use Rattle.writers.specs.Ready.{Noting, noting, entryOf, entered, notedBy, notedEach, Spans, laid, datumAt, Blocks, Fills, Lays}
 use Rattle.writers.proofs.Notes.{plus-counts, with-room, note-room, notes-more, capped-more}
 
 -- which addresses lie alike
@@ -162,10 +162,10 @@ pub record Filling (log : List ℕ) (from n at : ℕ) (mem₀ mem : List ℕ) (b
   pub blocks : Blocking log from n at mem₀ mem k
   pub long : length list ≡ length (before .list)
   pub notes : (first last : ℕ) → ((j : ℕ) → j < k → inStretch first last (fromAddress at j) ≡ true)
-      → noting (before .count + k) list ≡ notedAll first last (datumAt log from at mem₀) k before
+      → noting (before .count + k) list ≡ notedEach first last (datumAt log from at mem₀) k before
 
 pub filling : (log : List ℕ) (from n at : ℕ) (mem : List ℕ) (count : ℕ) (list : List ℕ) → at < 65536 → Filling log from n at mem mem (noting count list) list 0
-unfolding notedAll
+unfolding notedEach
 filling log from n at mem count list l =
     record {
       blocks = blocking log from n at mem l;
@@ -210,12 +210,12 @@ module _ {log : List ℕ} {from n at : ℕ} {mem₀ mem : List ℕ} {count : ℕ
 
 -- noted: none outside the stretch, all in it, counted alone where there is no room
 module _ (first last : ℕ) (f : ℕ → Store) (count : ℕ) (list : List ℕ) where
-  notes-outside : (k : ℕ) → ((j : ℕ) → j < k → inStretch first last (f j .address) ≡ false) → noting count list ≡ notedAll first last f k (noting count list)
-  unfolding notedAll
+  notes-outside : (k : ℕ) → ((j : ℕ) → j < k → inStretch first last (f j .address) ≡ false) → noting count list ≡ notedEach first last f k (noting count list)
+  unfolding notedEach
   notes-outside zero h = refl
   notes-outside (suc k) h =
       notes-outside k (λ j i. h j (omega arith))
-      ∙ sym (ap (λ (t : Bool). cond t (entered (f k) (notedAll first last f k (noting count list))) (notedAll first last f k (noting count list))) (h k (omega arith)))
+      ∙ sym (ap (λ (t : Bool). cond t (entered (f k) (notedEach first last f k (noting count list))) (notedEach first last f k (noting count list))) (h k (omega arith)))
 
   least : (n : ℕ) → roomOf list ≤ n → roomOf list < 2 ^ 64 → roomOf list ≤ capped n
   least n h l = go (ltb n (2 ^ 64))
@@ -225,8 +225,8 @@ module _ (first last : ℕ) (f : ℕ → Store) (count : ℕ) (list : List ℕ) 
       go false = omega arith
 
   notes-full : (k : ℕ) → roomOf list ≤ count → count < 2 ^ 64 → ((j : ℕ) → j < k → inStretch first last (f j .address) ≡ true)
-      → noting (capped (count + k)) list ≡ notedAll first last f k (noting count list)
-  unfolding notedAll
+      → noting (capped (count + k)) list ≡ notedEach first last f k (noting count list)
+  unfolding notedEach
   notes-full zero r l h = let e : count + 0 ≡ count = omega arith in λ t. noting ((sym (plus-counts count 0 (omega arith)) ∙ e) t) list
   notes-full (suc k) r l h =
       let e : count + k + 1 ≡ count + suc k = omega arith in
@@ -234,7 +234,7 @@ module _ (first last : ℕ) (f : ℕ → Store) (count : ℕ) (list : List ℕ) 
       (λ t. noting ((sym (ap capped e) ∙ sym (capped-more (count + k))) t) list)
       ∙ ap (λ (t : Bool). noting (capped (capped (count + k) + 1)) (cond t (sets list (4 * capped (count + k)) (entryOf (f k))) list)) (sym full)
       ∙ ap (entered (f k)) (notes-full k r l (λ j i. h j (omega arith)))
-      ∙ sym (ap (λ (t : Bool). cond t (entered (f k) (notedAll first last f k (noting count list))) (notedAll first last f k (noting count list))) (h k (omega arith)))
+      ∙ sym (ap (λ (t : Bool). cond t (entered (f k) (notedEach first last f k (noting count list))) (notedEach first last f k (noting count list))) (h k (omega arith)))
 
 -- as many as lie alike
 module _ {first last at : ℕ} {inside : Bool} (left : ℕ) {span : ℕ} (near : ℕ) (i : inside ≡ inStretch first last at) (s : Spans first last at span) (e : near ≡ min left span) where
@@ -267,7 +267,7 @@ module _ {first last at : ℕ} {inside : Bool} (left : ℕ) {span : ℕ} (near :
         record { blocks = wider (omega arith) (λ q. q) b; notes = (λ t. noting ((f ∙ ap (λ (j : ℕ). capped (count + j)) g) t) list) ∙ go inside refl h }
       where
         go : (t : Bool) → inside ≡ t → (t && ltb count room) ≡ false
-            → noting (capped (count + cond t k 0)) list ≡ notedAll first last (datumAt log from at mem) k (noting count list)
+            → noting (capped (count + cond t k 0)) list ≡ notedEach first last (datumAt log from at mem) k (noting count list)
         go true o none =
             let full : room ≤ count = ltb-false count room none in
             notes-full first last (datumAt log from at mem) count list k (omega (arith, full, r)) l (alike true o k (b .few))

@@ -15,9 +15,9 @@ use Rattle.ground.proofs.Tests.{both-left, both-right}
 use Rattle.ground.proofs.Filling.{Filled, none-yet, one-more, as-long}
 use Rattle.ground.proofs.Lists.{build-length, build-at}
 use Rattle.stores.specs.Stores.{fromAddress}
-use Rattle.writers.specs.Stretch.{Store, store, inStretch, storesIn, numbersOf}
+use Rattle.writers.specs.Stretch.{Store, store, inStretch, storesIn, storeNumbers}
 use Rattle.writers.specs.Listed.{roomOf, capped}
-use Rattle.writers.specs.Ready.{Noting, noting, entryOf, entered, notedBy, notedAll, Held}
+use Rattle.writers.specs.Ready.{Noting, noting, entryOf, entered, notedBy, notedEach, Held}
 
 -- so many more, as 64 bits say it
 pub plus-counts : (count n : ℕ) → count + n < 2 ^ 64 → count + n ≡ capped (count + n)
@@ -69,27 +69,27 @@ noted-long first last x n = go (inStretch first last (x .address))
     go false = refl
 
 module _ (first last : ℕ) where
-  pub notes-none : (f : ℕ → Store) (n : Noting) → n ≡ notedAll first last f 0 n
-  unfolding notedAll
+  pub notes-none : (f : ℕ → Store) (n : Noting) → n ≡ notedEach first last f 0 n
+  unfolding notedEach
   notes-none f n = refl
 
-  pub notes-one : (f : ℕ → Store) (n : Noting) → notedBy first last (f 0) n ≡ notedAll first last f 1 n
-  unfolding notedAll
+  pub notes-one : (f : ℕ → Store) (n : Noting) → notedBy first last (f 0) n ≡ notedEach first last f 1 n
+  unfolding notedEach
   notes-one f n = refl
 
-  pub notes-more : (f : ℕ → Store) (k : ℕ) (n : Noting) → notedBy first last (f k) (notedAll first last f k n) ≡ notedAll first last f (k + 1) n
-  unfolding notedAll
-  notes-more f k n = ap (λ (j : ℕ). notedAll first last f j n) (sym (add-one k))
+  pub notes-more : (f : ℕ → Store) (k : ℕ) (n : Noting) → notedBy first last (f k) (notedEach first last f k n) ≡ notedEach first last f (k + 1) n
+  unfolding notedEach
+  notes-more f k n = ap (λ (j : ℕ). notedEach first last f j n) (sym (add-one k))
 
-  pub notes-same : (f g : ℕ → Store) (k : ℕ) (n : Noting) → ((j : ℕ) → j < k → f j ≡ g j) → notedAll first last f k n ≡ notedAll first last g k n
-  unfolding notedAll
+  pub notes-same : (f g : ℕ → Store) (k : ℕ) (n : Noting) → ((j : ℕ) → j < k → f j ≡ g j) → notedEach first last f k n ≡ notedEach first last g k n
+  unfolding notedEach
   notes-same f g zero n h = refl
   notes-same f g (suc k) n h = λ i. notedBy first last (h k (omega arith) i) (notes-same f g k n (λ j l. h j (omega arith)) i)
 
-  pub notes-long : (f : ℕ → Store) (k : ℕ) (n : Noting) → length (notedAll first last f k n .list) ≡ length (n .list)
-  unfolding notedAll
+  pub notes-long : (f : ℕ → Store) (k : ℕ) (n : Noting) → length (notedEach first last f k n .list) ≡ length (n .list)
+  unfolding notedEach
   notes-long f zero n = refl
-  notes-long f (suc k) n = noted-long first last (f k) (notedAll first last f k n) ∙ notes-long f k n
+  notes-long f (suc k) n = noted-long first last (f k) (notedEach first last f k n) ∙ notes-long f k n
 
 -- bytes gathered one after the other
 pub held : (mem : List ℕ) (at n : ℕ) {l₀ l : List ℕ} → Filled (λ j. getD mem (fromAddress at j) 0) l₀ l n → Held mem at n l
@@ -131,7 +131,7 @@ storesBy pair at before mem j = store pair (fromAddress at j) (getD before j 0) 
 -- before store j of n
 pub record NotingAll (first last pair at n : ℕ) (before mem : List ℕ) (count₀ : ℕ) (list₀ : List ℕ) (count : ℕ) (list : List ℕ) (j : ℕ) : Type 0 where
   pub inside : j ≤ n
-  pub notes : noting count list ≡ notedAll first last (storesBy pair at before mem) j (noting count₀ list₀)
+  pub notes : noting count list ≡ notedEach first last (storesBy pair at before mem) j (noting count₀ list₀)
 
 pub noting-all : (first last pair at n : ℕ) (before mem : List ℕ) (count : ℕ) (list : List ℕ) → NotingAll first last pair at n before mem count list count list 0
 noting-all first last pair at n before mem count list =
@@ -153,18 +153,18 @@ module _ {first last pair at n : ℕ} {before mem : List ℕ} {count₀ : ℕ} {
             ∙ notes-more first last (storesBy pair at before mem) j (noting count₀ list₀);
       }
 
-  pub noting-ends : n ≤ j → noting count list ≡ notedAll first last (storesBy pair at before mem) n (noting count₀ list₀)
+  pub noting-ends : n ≤ j → noting count list ≡ notedEach first last (storesBy pair at before mem) n (noting count₀ list₀)
   noting-ends h =
       let e : j ≡ n = omega (arith, k .inside) in
-      k .notes ∙ ap (λ (m : ℕ). notedAll first last (storesBy pair at before mem) m (noting count₀ list₀)) e
+      k .notes ∙ ap (λ (m : ℕ). notedEach first last (storesBy pair at before mem) m (noting count₀ list₀)) e
 
-numbers-append : (a b : List Store) → numbersOf (a ++ b) ≡ numbersOf a ++ numbersOf b
-unfolding numbersOf
+numbers-append : (a b : List Store) → storeNumbers (a ++ b) ≡ storeNumbers a ++ storeNumbers b
+unfolding storeNumbers
 numbers-append [] b = refl
 numbers-append (x ∷ a) b = ap (λ (l : List ℕ). x .pair ∷ x .address ∷ x .before ∷ x .after ∷ l) (numbers-append a b)
 
-pub numbers-length : (a : List Store) → length (numbersOf a) ≡ 4 * length a
-unfolding numbersOf
+pub numbers-length : (a : List Store) → length (storeNumbers a) ≡ 4 * length a
+unfolding storeNumbers
 numbers-length [] = refl
 numbers-length (x ∷ a) = omega (arith, numbers-length a)
 
@@ -201,12 +201,12 @@ capped-more n = go (ltb n (2 ^ 64)) refl
 pub record Holds (list₀ : List ℕ) (es : List Store) (n : Noting) : Type 0 where
   pub long : length (n .list) ≡ length list₀
   pub counts : n .count ≡ capped (length es)
-  pub lists : n .list ≡ sets list₀ 0 (numbersOf (take (roomOf list₀) es))
+  pub lists : n .list ≡ sets list₀ 0 (storeNumbers (take (roomOf list₀) es))
 
 pub holds-none : (list₀ : List ℕ) → Holds list₀ [] (noting 0 list₀)
-unfolding numbersOf
+unfolding storeNumbers
 holds-none list₀ =
-    record { long = refl; counts = refl; lists = sym (ap (λ (l : List Store). sets list₀ 0 (numbersOf l)) (take-nil (roomOf list₀))) }
+    record { long = refl; counts = refl; lists = sym (ap (λ (l : List Store). sets list₀ 0 (storeNumbers l)) (take-nil (roomOf list₀))) }
 
 -- room below 2^64 - 1, which a list's length leaves
 module _ (list₀ : List ℕ) (few : roomOf list₀ < 2 ^ 64 - 1) where
@@ -218,22 +218,22 @@ module _ (list₀ : List ℕ) (few : roomOf list₀ < 2 ^ 64 - 1) where
     more-stores = length-append es (x ∷ [])
 
     behind : (t : Bool) → ltb (n .count) (roomOf (n .list)) ≡ t
-        → cond t (sets (n .list) (4 * n .count) (entryOf x)) (n .list) ≡ sets list₀ 0 (numbersOf (take (roomOf list₀) (es ++ (x ∷ []))))
-    unfolding numbersOf
+        → cond t (sets (n .list) (4 * n .count) (entryOf x)) (n .list) ≡ sets list₀ 0 (storeNumbers (take (roomOf list₀) (es ++ (x ∷ []))))
+    unfolding storeNumbers
     behind true e =
         let below : n .count < roomOf list₀ = subst (λ (m : ℕ). n .count < m) room-same (ltb-true (n .count) (roomOf (n .list)) e) in
         let exact : n .count ≡ length es = k .counts ∙ capped-below (length es) (roomOf list₀) few (subst (λ (m : ℕ). m < roomOf list₀) (k .counts) below) in
-        let place : 4 * n .count ≡ 0 + length (numbersOf es) = omega (arith, exact, numbers-length es) in
+        let place : 4 * n .count ≡ 0 + length (storeNumbers es) = omega (arith, exact, numbers-length es) in
         (λ i. sets (k .lists i) (place i) (entryOf x))
-        ∙ ap (λ (l : List Store). sets (sets list₀ 0 (numbersOf l)) (0 + length (numbersOf es)) (entryOf x)) (take-all (roomOf list₀) es (omega (arith, exact, below)))
-        ∙ sym (sets-append list₀ 0 (numbersOf es) (entryOf x))
+        ∙ ap (λ (l : List Store). sets (sets list₀ 0 (storeNumbers l)) (0 + length (storeNumbers es)) (entryOf x)) (take-all (roomOf list₀) es (omega (arith, exact, below)))
+        ∙ sym (sets-append list₀ 0 (storeNumbers es) (entryOf x))
         ∙ ap (sets list₀ 0) (sym (numbers-append es (x ∷ [])))
-        ∙ sym (ap (λ (l : List Store). sets list₀ 0 (numbersOf l)) (take-all (roomOf list₀) (es ++ (x ∷ [])) (omega (arith, exact, below, more-stores))))
+        ∙ sym (ap (λ (l : List Store). sets list₀ 0 (storeNumbers l)) (take-all (roomOf list₀) (es ++ (x ∷ [])) (omega (arith, exact, below, more-stores))))
     behind false e =
         let above : roomOf list₀ ≤ n .count = subst (λ (m : ℕ). m ≤ n .count) room-same (ltb-false (n .count) (roomOf (n .list)) e) in
         let least = capped-least (length es) in
         k .lists
-        ∙ sym (ap (λ (l : List Store). sets list₀ 0 (numbersOf l)) (take-append-le (roomOf list₀) es (x ∷ []) (omega (arith, above, k .counts, least))))
+        ∙ sym (ap (λ (l : List Store). sets list₀ 0 (storeNumbers l)) (take-append-le (roomOf list₀) es (x ∷ []) (omega (arith, above, k .counts, least))))
 
     holds-entered : Holds list₀ (es ++ (x ∷ [])) (entered x n)
     holds-entered =
@@ -249,10 +249,10 @@ module _ (list₀ : List ℕ) (few : roomOf list₀ < 2 ^ 64 - 1) where
 
   -- all that a pair stores
   pub holds-all : (first last : ℕ) (f : ℕ → Store) (j : ℕ) (es : List Store) (n : Noting) → Holds list₀ es n
-      → Holds list₀ (es ++ storesIn first last f j) (notedAll first last f j n)
-  unfolding storesIn notedAll
+      → Holds list₀ (es ++ storesIn first last f j) (notedEach first last f j n)
+  unfolding storesIn notedEach
   holds-all first last f zero es n k = subst (λ (l : List Store). Holds list₀ l n) (sym (append-nil es)) k
   holds-all first last f (suc j) es n k =
-      subst (λ (l : List Store). Holds list₀ l (notedAll first last f (suc j) n))
+      subst (λ (l : List Store). Holds list₀ l (notedEach first last f (suc j) n))
       (append-assoc es (storesIn first last f j) (cond (inStretch first last (f j .address)) (f j ∷ []) []))
-      (holds-noted (es ++ storesIn first last f j) (notedAll first last f j n) (holds-all first last f j es n k) (f j) (inStretch first last (f j .address)))
+      (holds-noted (es ++ storesIn first last f j) (notedEach first last f j n) (holds-all first last f j es n k) (f j) (inStretch first last (f j .address)))

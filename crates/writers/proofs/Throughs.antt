@@ -24,7 +24,7 @@ use Rattle.usual.specs.Ready.{Tells}
 use Rattle.stores.specs.Stores.{copyStores, commandStores, codeStores, storesOf, storesAsked, fromAddress}
 use Rattle.writers.specs.Types.{Panel, Display, Bus, Registers, Acted, Told, Said}
 use Rattle.writers.specs.Stretch.{store, storeAt}
-use Rattle.writers.specs.Ready.{Noting, noting, notedBy, notedAll, Held, Singles, Says, Behind, behind, behindBy}
+use Rattle.writers.specs.Ready.{Noting, noting, notedBy, notedEach, Held, Singles, Says, Behind, behind, behindBy}
 use Rattle.writers.proofs.Notes.{notes-none, notes-one, notes-same, storesBy}
 
 -- a pair stores at most eighty bytes
@@ -87,7 +87,7 @@ module _ {first last pair : ℕ} {b : Bus} {mem : List ℕ} {still : Bool} {k : 
         notes = λ e p v. f
             ∙ (λ j. notedBy first last (store pair (here j) ((w ∙ (λ j. getD mem (here j) 0)) j) (getD after (here j) 0)) (noting count list))
             ∙ notes-one first last (storeAt pair (machine (record { display = v; bus = b }) mem) (machine (record { display = v; bus = told .bus }) after)) (noting count list)
-            ∙ ap (λ (j : ℕ). notedAll first last (storeAt pair (machine (record { display = v; bus = b }) mem) (machine (record { display = v; bus = told .bus }) after)) j (noting count list))
+            ∙ ap (λ (j : ℕ). notedEach first last (storeAt pair (machine (record { display = v; bus = b }) mem) (machine (record { display = v; bus = told .bus }) after)) j (noting count list))
             (sym (s .counts (told-other still t d) p (record { display = v; bus = b }) ∙ eqb-true n 1 (both-right (told .done) (eqb n 1) h)));
         keeps = λ e. absurd (true≢false e);
       }
@@ -106,7 +106,7 @@ module _ {first last pair : ℕ} {b : Bus} {mem : List ℕ} {still : Bool} {k : 
         quiet = λ e. both-left still (not (eqb (k / 16) 14)) (t .quiet e);
         acts = t .acts;
         notes = λ e p v. notes-none first last (storeAt pair (machine (record { display = v; bus = b }) mem) (machine (record { display = v; bus = told .bus }) after)) (noting count list)
-            ∙ ap (λ (j : ℕ). notedAll first last (storeAt pair (machine (record { display = v; bus = b }) mem) (machine (record { display = v; bus = told .bus }) after)) j (noting count list))
+            ∙ ap (λ (j : ℕ). notedEach first last (storeAt pair (machine (record { display = v; bus = b }) mem) (machine (record { display = v; bus = told .bus }) after)) j (noting count list))
             (sym (s .counts (told-other still t e) p (record { display = v; bus = b }) ∙ zero-of e));
         keeps = λ e. (t .keeps e, refl);
       }
@@ -133,21 +133,21 @@ module _ {p : Panel} {r : Registers} {mem rom : List ℕ} (k : Runs p r mem rom)
     due o = behindBy p first last pair (machine r mem) q (noting count list) o
 
     abbrev gone : Registers → List ℕ → Behind
-    gone r′ m = behind (machine r′ m) (notedAll first last (storeAt pair (machine r mem) (machine r′ m)) (storesOf p r q) (noting count list))
+    gone r′ m = behind (machine r′ m) (notedEach first last (storeAt pair (machine r mem) (machine r′ m)) (storesOf p r q) (noting count list))
 
     -- accepted: the bytes it stored, those before as they were held
     through-accepted : a .number ≡ 0 → {n : ℕ} → n ≡ storesAsked p r q → {before : List ℕ} → Held mem (r .bus .pointer) n before
-        → {x : Noting} → x ≡ notedAll first last (storesBy pair (r .bus .pointer) before after) n (noting count list)
+        → {x : Noting} → x ≡ notedEach first last (storesBy pair (r .bus .pointer) before after) n (noting count list)
         → behind (machine (a .registers) after) x ≡ due (stepOf p rom (machine r mem) q)
     through-accepted z {n} s {before} h {x} f =
         (λ j. behind (machine (a .registers) after) (noted j)) ∙ go (stepOf p rom (machine r mem) q) refl (e ∙ access-runs k q)
       where
-        noted : x ≡ notedAll first last (storeAt pair (machine r mem) (machine (a .registers) after)) (storesOf p r q) (noting count list)
+        noted : x ≡ notedEach first last (storeAt pair (machine r mem) (machine (a .registers) after)) (storesOf p r q) (noting count list)
         noted =
             f
             ∙ notes-same first last (storesBy pair (r .bus .pointer) before after) (storeAt pair (machine r mem) (machine (a .registers) after)) n (noting count list)
             (λ j l t. store pair (fromAddress (r .bus .pointer) j) (h .holds j l t) (getD after (fromAddress (r .bus .pointer) j) 0))
-            ∙ ap (λ (j : ℕ). notedAll first last (storeAt pair (machine r mem) (machine (a .registers) after)) j (noting count list)) (s ∙ asked)
+            ∙ ap (λ (j : ℕ). notedEach first last (storeAt pair (machine r mem) (machine (a .registers) after)) j (noting count list)) (s ∙ asked)
 
         go : (o : Step Machine) → stepOf p rom (machine r mem) q ≡ o → replied a after ≡ actedOf r mem o → gone (a .registers) after ≡ due o
         go (done t) w i = λ j. gone (i j .acted .registers) (i j .memory)
@@ -168,12 +168,12 @@ module _ {p : Panel} {r : Registers} {mem rom : List ℕ} (k : Runs p r mem rom)
 
     -- noted so many if it is accepted, else none
     pub through-either : {n : ℕ} → n ≡ storesAsked p r q → {m : ℕ} → m ≡ cond (eqb (a .number) 0) n 0 → {before : List ℕ} → Held mem (r .bus .pointer) n before
-        → {x : Noting} → x ≡ notedAll first last (storesBy pair (r .bus .pointer) before after) m (noting count list)
+        → {x : Noting} → x ≡ notedEach first last (storesBy pair (r .bus .pointer) before after) m (noting count list)
         → behind (machine (a .registers) after) x ≡ due (stepOf p rom (machine r mem) q)
     through-either {n} s {m} c {before} h {x} f = go (eqb (a .number) 0) refl
       where
-        noted-by : (t : Bool) → eqb (a .number) 0 ≡ t → x ≡ notedAll first last (storesBy pair (r .bus .pointer) before after) (cond t n 0) (noting count list)
-        noted-by t e = f ∙ ap (λ (j : ℕ). notedAll first last (storesBy pair (r .bus .pointer) before after) j (noting count list)) (c ∙ ap (λ (u : Bool). cond u n 0) e)
+        noted-by : (t : Bool) → eqb (a .number) 0 ≡ t → x ≡ notedEach first last (storesBy pair (r .bus .pointer) before after) (cond t n 0) (noting count list)
+        noted-by t e = f ∙ ap (λ (j : ℕ). notedEach first last (storesBy pair (r .bus .pointer) before after) j (noting count list)) (c ∙ ap (λ (u : Bool). cond u n 0) e)
 
         go : (t : Bool) → eqb (a .number) 0 ≡ t → behind (machine (a .registers) after) x ≡ due (stepOf p rom (machine r mem) q)
         go true e = through-accepted (eqb-true (a .number) 0 e) s h (noted-by true e)

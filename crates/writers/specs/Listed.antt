@@ -9,7 +9,7 @@ use Rattle.state.specs.State.{validPanel, validRegisters}
 use Rattle.display.specs.Frame.{lentLengths}
 use Rattle.controller.specs.Run.{pairsOf, runFrom}
 use Rattle.writers.specs.Types.{Panel, Registers, Listed}
-use Rattle.writers.specs.Stretch.{Store, numbersOf}
+use Rattle.writers.specs.Stretch.{Store, storeNumbers}
 use Rattle.writers.specs.Listing.{Listing, listStep, begunList}
 
 -- a reply, the display memory and the list then
@@ -37,8 +37,8 @@ capped n = cond (ltb n (2 ^ 64)) n (2 ^ 64 - 1)
 abbrev pub listedOf : List ℕ → Listing → ListedAll
 listedOf list s =
     cond (leb (length (s .stores)) (roomOf list))
-    (listedAll (record { registers = s .machine .registers; number = 0; place = 0; count = length (s .stores) }) (s .machine .memory) (sets list 0 (numbersOf (s .stores))))
-    (listedAll (record { registers = s .machine .registers; number = 15; place = capped (length (s .stores)); count = roomOf list }) (s .machine .memory) (sets list 0 (numbersOf (take (roomOf list) (s .stores)))))
+    (listedAll (record { registers = s .machine .registers; number = 0; place = 0; count = length (s .stores) }) (s .machine .memory) (sets list 0 (storeNumbers (s .stores))))
+    (listedAll (record { registers = s .machine .registers; number = 15; place = capped (length (s .stores)); count = roomOf list }) (s .machine .memory) (sets list 0 (storeNumbers (take (roomOf list) (s .stores)))))
 
 -- 1 panel or state not valid; 2 a lent fixed length wrong; 8 log of odd length; then all pairs, 15 last
 unfoldable pub listOf : Panel → Registers → List ℕ → List ℕ → List ℕ → ℕ → ℕ → List ℕ → ListedAll

@@ -34,9 +34,9 @@ entered x n =
 abbrev pub notedBy : ℕ → ℕ → Store → Noting → Noting
 notedBy first last x n = cond (inStretch first last (x .address)) (entered x n) n
 
-unfoldable pub notedAll : ℕ → ℕ → (ℕ → Store) → ℕ → Noting → Noting
-notedAll first last f zero n = n
-notedAll first last f (suc k) n = notedBy first last (f k) (notedAll first last f k n)
+unfoldable pub notedEach : ℕ → ℕ → (ℕ → Store) → ℕ → Noting → Noting
+notedEach first last f zero n = n
+notedEach first last f (suc k) n = notedBy first last (f k) (notedEach first last f k n)
 
 -- n bytes from an address on
 pub record Held (mem : List ℕ) (at n : ℕ) (bytes : List ℕ) : Type 0 where
@@ -71,12 +71,12 @@ pub record Blocks (log : List ℕ) (from n at : ℕ) (mem after : List ℕ) (k :
 pub record Fills (log : List ℕ) (from n at : ℕ) (mem after : List ℕ) (before : Noting) (list : List ℕ) (k : ℕ) : Type 0 where
   pub blocks : Blocks log from n at mem after k
   pub notes : (first last : ℕ) → ((j : ℕ) → j < k → inStretch first last (fromAddress at j) ≡ true)
-      → noting (before .count + k) list ≡ notedAll first last (datumAt log from at mem) k before
+      → noting (before .count + k) list ≡ notedEach first last (datumAt log from at mem) k before
 
 -- and noted
 pub record Lays (first last : ℕ) (log : List ℕ) (from n at : ℕ) (mem after : List ℕ) (before noted : Noting) (k : ℕ) : Type 0 where
   pub blocks : Blocks log from n at mem after k
-  pub notes : noted ≡ notedAll first last (datumAt log from at mem) k before
+  pub notes : noted ≡ notedEach first last (datumAt log from at mem) k before
 
 -- how many bytes a code's command stores, none or one: any code but E0H to EFH
 pub record Singles (k n : ℕ) : Type 0 where
@@ -90,7 +90,7 @@ pub record Says (first last pair : ℕ) (b : Bus) (mem : List ℕ) (still : Bool
       → stepOf p rom (machine (record { display = d; bus = b }) mem) (code k) ≡ done (machine (record { display = d; bus = said .bus }) after)
   pub notes : said .done ≡ true → (p : Panel) (d : Display)
       → noting (said .count) list
-      ≡ notedAll first last (storeAt pair (machine (record { display = d; bus = b }) mem) (machine (record { display = d; bus = said .bus }) after))
+      ≡ notedEach first last (storeAt pair (machine (record { display = d; bus = b }) mem) (machine (record { display = d; bus = said .bus }) after))
       (codeStores p (record { display = d; bus = b }) (decodeOf k)) before
   pub keeps : said .done ≡ false → (after ≡ mem) × (list ≡ before .list)
 
@@ -104,8 +104,8 @@ behind m n = record { machine = m; notes = n }
 
 -- what an accepted pair stores is noted; where it is refused all is as it was
 abbrev pub behindBy : Panel → ℕ → ℕ → ℕ → Machine → Pair → Noting → Step Machine → Behind
-behindBy p first last pair s q n (done t) = behind t (notedAll first last (storeAt pair s t) (storesOf p (s .registers) q) n)
-behindBy p first last pair s q n (answered t b) = behind t (notedAll first last (storeAt pair s t) (storesOf p (s .registers) q) n)
+behindBy p first last pair s q n (done t) = behind t (notedEach first last (storeAt pair s t) (storesOf p (s .registers) q) n)
+behindBy p first last pair s q n (answered t b) = behind t (notedEach first last (storeAt pair s t) (storesOf p (s .registers) q) n)
 behindBy p first last pair s q n (refused e) = behind s n
 
 -- all entries needed, or 15 where there is no room for them

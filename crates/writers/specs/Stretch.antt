@@ -32,6 +32,6 @@ storesIn first last f zero = []
 storesIn first last f (suc n) = storesIn first last f n ++ cond (inStretch first last (f n .address)) (f n ∷ []) []
 
 -- four numbers an entry
-unfoldable pub numbersOf : List Store → List ℕ
-numbersOf [] = []
-numbersOf (x ∷ xs) = x .pair ∷ x .address ∷ x .before ∷ x .after ∷ numbersOf xs
+unfoldable pub storeNumbers : List Store → List ℕ
+storeNumbers [] = []
+storeNumbers (x ∷ xs) = x .pair ∷ x .address ∷ x .before ∷ x .after ∷ storeNumbers xs

@@ -8,7 +8,7 @@ ghost use lib.Seq.{sets};
 ghost use Rattle.stores.specs.Stores.{fromAddress};
 ghost use Rattle.writers.specs.Stretch.{store, inStretch};
 ghost use Rattle.writers.specs.Listed.{capped};
-ghost use Rattle.writers.specs.Ready.{noting, notedBy, notedAll, Singles, Held};
+ghost use Rattle.writers.specs.Ready.{noting, notedBy, notedEach, Singles, Held};
 
 pub(crate) fn in_stretch(first: u16, last: u16, address: u16) -> bool
     ensures { λ r. ⌜ r ≡ inStretch first last address ⌝ }
@@ -125,7 +125,7 @@ pub(crate) fn note_all(
     last: u16,
 ) -> usize
     requires { ⌜ (length (now mem) ≡ 65536) × (n ≤ 80) × (length (now before) ≡ 80) ⌝ }
-    ensures { λ r. ⌜ noting r (now (list .exit)) ≡ notedAll first last (λ j. store pair (fromAddress at j) (getD (now (before .entry)) j 0) (getD (now (mem .entry)) (fromAddress at j) 0)) n (noting count (now (list .entry))) ⌝ }
+    ensures { λ r. ⌜ noting r (now (list .exit)) ≡ notedEach first last (λ j. store pair (fromAddress at j) (getD (now (before .entry)) j 0) (getD (now (mem .entry)) (fromAddress at j) 0)) n (noting count (now (list .entry))) ⌝ }
 {
     let mut entries = count;
     let mut j: usize = 0;

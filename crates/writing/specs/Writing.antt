@@ -5,7 +5,7 @@ use lib.ListN.{length}
 use mathlib.Core.List.{List}
 use Rattle.writers.specs.Listed.{ListedAll, listOf}
 use Rattle.writing.specs.Types.{Panel, Entry, State, Refused}
-use Rattle.image.specs.Door.{doorOf, keptOf, entriesOf}
+use Rattle.image.specs.Door.{doorOf, keptOf, listCountsOf}
 
 pub record WritersEnd : Type 0 where
   pub number : ℕ
@@ -20,7 +20,7 @@ writersEnd n registers memory list counts = record { number = n; registers = reg
 abbrev pub writersDone : List ℕ → List ℕ → ListedAll → WritersEnd
 writersDone b k o =
     writersEnd (o .listed .number) (keptOf (o .listed .number) (o .listed .registers) b) (o .memory) (o .list)
-    (entriesOf (o .listed .number) (o .listed .place) (o .listed .count) k)
+    (listCountsOf (o .listed .number) (o .listed .place) (o .listed .count) k)
 
 abbrev pub writersBy : Entry → Panel → List ℕ → List ℕ → List ℕ → List ℕ → ℕ → ℕ → List ℕ → List ℕ → WritersEnd
 writersBy (State r) p b mem rom log first last list k = writersDone b k (listOf p r mem rom log first last list)
