@@ -36,13 +36,6 @@ use Rattle.writers.specs.Ready.{Noting, noting, notedBy, notedEach, laid
 use Rattle.writers.proofs.Notes.{Holds, holds-none, holds-all, notes-none, notes-one, capped-least}
 use Rattle.writers.proofs.Singly.{none-below}
 
--- one pair on; the whole pairs of a log
-pub less-on : {i total : ℕ} → i < total → total - (i + 1) < total - i
-less-on h = omega arith
-
-pub whole-pairs : (log : List ℕ) → 2 * (length log / 2) ≤ length log
-whole-pairs log = omega arith
-
 -- what is kept: a sound controller
 pub record Listable (s : Listing) : Type 0 where
   pub sound : Sounds (s .machine)

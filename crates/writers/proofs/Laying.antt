@@ -16,7 +16,7 @@ use Rattle.stores.specs.Stores.{fromAddress}
 use Rattle.writers.specs.Stretch.{Store, store, inStretch}
 use Rattle.writers.specs.Listed.{roomOf, capped}
 use Rattle.writers.specs.Ready.{Noting, noting, entryOf, entered, notedBy, notedEach, Spans, laid, datumAt, Blocks, Fills, Lays}
-use Rattle.writers.proofs.Notes.{plus-counts, with-room, note-room, notes-more, capped-more}
+use Rattle.writers.proofs.Notes.{plus-counts, note-room, notes-more, capped-more}
 
 -- which addresses lie alike
 module _ (first last at : ℕ) (f : first < 65536) (l : last < 65536) (a : at < 65536) where
@@ -199,7 +199,7 @@ module _ {log : List ℕ} {from n at : ℕ} {mem₀ mem : List ℕ} {count : ℕ
           → noting (count + (k + 1)) next ≡ notedBy first last (datumAt log from at mem₀ k) (noting (count + k) list)
       entry first last i =
           note-room first last (count + k) (from + k) (fromAddress at k) (getD (laid log from at mem₀ k) (fromAddress at k) 0) (getD log (2 * (from + k) + 1) 0) list
-          {b = true} (sym i) (lt-ltb (count + k) (roomOf list) room) next-count
+          {b = true} (sym i) refl next-count room
           (f ∙ (λ t. sets list (4 * (count + k)) ((from + k) ∷ here t ∷ getD (g .blocks .stores t) (here t) 0 ∷ getD log (2 * (from + k) + 1) 0 ∷ [])))
 
   pub filling-stops : (getD log (2 * (from + k)) 0 ≡ 0 → ⊥) → Fills log from n at mem₀ mem (noting count list₀) list k
@@ -236,6 +236,9 @@ module _ (first last : ℕ) (f : ℕ → Store) (count : ℕ) (list : List ℕ) 
       ∙ ap (entered (f k)) (notes-full k r l (λ j i. h j (omega arith)))
       ∙ sym (ap (λ (t : Bool). cond t (entered (f k) (notedEach first last f k (noting count list))) (notedEach first last f k (noting count list))) (h k (omega arith)))
 
+pub with-room : (t : Bool) (n room : ℕ) → (t && ltb n room) ≡ true → n < room
+with-room t n room h = ltb-true n room (both-right t (ltb n room) h)
+
 -- as many as lie alike
 module _ {first last at : ℕ} {inside : Bool} (left : ℕ) {span : ℕ} (near : ℕ) (i : inside ≡ inStretch first last at) (s : Spans first last at span) (e : near ≡ min left span) where
   alike : (t : Bool) → inside ≡ t → (k : ℕ) → k ≤ near → (j : ℕ) → j < k → inStretch first last (fromAddress at j) ≡ t
@@ -261,17 +264,20 @@ module _ {first last at : ℕ} {inside : Bool} (left : ℕ) {span : ℕ} (near :
           notes = b .notes first last (alike true (both-left inside (ltb count room) h) k (omega (arith, b .blocks .few, m)));
         }
 
-    pub lays-rest : {room : ℕ} → room ≡ roomOf list → count < 2 ^ 64 → (inside && ltb count room) ≡ false → {k : ℕ} → Blocks log from near at mem after k
-        → {n : ℕ} → n ≡ cond inside k 0 → {r : ℕ} → r ≡ capped (count + n) → Lays first last log from left at mem after (noting count list) (noting r list) k
-    lays-rest {room} r l h {k} b {n} g f =
-        record { blocks = wider (omega arith) (λ q. q) b; notes = (λ t. noting ((f ∙ ap (λ (j : ℕ). capped (count + j)) g) t) list) ∙ go inside refl h }
-      where
-        go : (t : Bool) → inside ≡ t → (t && ltb count room) ≡ false
-            → noting (capped (count + cond t k 0)) list ≡ notedEach first last (datumAt log from at mem) k (noting count list)
-        go true o none =
-            let full : room ≤ count = ltb-false count room none in
-            notes-full first last (datumAt log from at mem) count list k (omega (arith, full, r)) l (alike true o k (b .few))
-        go false o none =
-            let z : count + 0 ≡ count = omega arith in
-            (λ t. noting ((sym (plus-counts count 0 (omega arith)) ∙ z) t) list)
-            ∙ notes-outside first last (datumAt log from at mem) count list k (alike false o k (b .few))
+    pub lays-counted : {room : ℕ} → room ≡ roomOf list → count < 2 ^ 64 → (inside && ltb count room) ≡ false → inside ≡ true → {k : ℕ}
+        → Blocks log from near at mem after k → {r : ℕ} → r ≡ capped (count + k) → Lays first last log from left at mem after (noting count list) (noting r list) k
+    lays-counted {room} r l h o {k} b f =
+        let none : ltb count room ≡ false = sym (ap (λ (t : Bool). t && ltb count room) o) ∙ h in
+        let full : room ≤ count = ltb-false count room none in
+        record {
+          blocks = wider (omega arith) (λ q. q) b;
+          notes = (λ t. noting (f t) list)
+              ∙ notes-full first last (datumAt log from at mem) count list k (omega (arith, full, r)) l (alike true o k (b .few));
+        }
+
+    pub lays-passed : inside ≡ false → {k : ℕ} → Blocks log from near at mem after k → Lays first last log from left at mem after (noting count list) (noting count list) k
+    lays-passed o {k} b =
+        record {
+          blocks = wider (omega arith) (λ q. q) b;
+          notes = notes-outside first last (datumAt log from at mem) count list k (alike false o k (b .few));
+        }

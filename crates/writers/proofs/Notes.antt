@@ -11,7 +11,8 @@ use lib.ListN.{length, getD, take, set, length-append}
 use lib.Seq.{sets, length-sets, take-all, take-nil, take-append-le}
 use borrow.Author.Tests.{ltb-true, ltb-false, leb-true, leb-false, lt-ltb, le-ltb, le-leb, lt-leb, not-true, not-false}
 use Rattle.ground.specs.Lists.{build}
-use Rattle.ground.proofs.Tests.{both-left, both-right}
+use Rattle.ground.proofs.Conjuncts.{neither}
+use Rattle.ground.proofs.Tests.{both}
 use Rattle.ground.proofs.Filling.{Filled, none-yet, one-more, as-long}
 use Rattle.ground.proofs.Lists.{build-length, build-at}
 use Rattle.stores.specs.Stores.{fromAddress}
@@ -26,9 +27,6 @@ plus-counts count n l = sym (ap (λ (t : Bool). cond t (count + n) (2 ^ 64 - 1))
 pub plus-most : (count n : ℕ) → 2 ^ 64 ≤ count + n → 2 ^ 64 - 1 ≡ capped (count + n)
 plus-most count n l = sym (ap (λ (t : Bool). cond t (count + n) (2 ^ 64 - 1)) (le-ltb (count + n) (2 ^ 64) l))
 
-pub with-room : (t : Bool) (n room : ℕ) → (t && ltb n room) ≡ true → n < room
-with-room t n room h = ltb-true n room (both-right t (ltb n room) h)
-
 -- a store outside the stretch; inside it, without room and with room
 module _ (first last count pair address before after : ℕ) (list : List ℕ) where
   abbrev due : Noting
@@ -38,20 +36,19 @@ module _ (first last count pair address before after : ℕ) (list : List ℕ) wh
   by-tests t u =
       cond t (noting (capped (count + 1)) (cond u (sets list (4 * count) (pair ∷ address ∷ before ∷ after ∷ [])) list)) (noting count list)
 
-  module _ {b : Bool} (e : b ≡ inStretch first last address) where
-    pub note-room : (b && ltb count (roomOf list)) ≡ true → {r : ℕ} → r ≡ capped (count + 1) → {next : List ℕ}
-        → next ≡ sets list (4 * count) (pair ∷ address ∷ before ∷ after ∷ []) → noting r next ≡ due
-    note-room h {r} m {next} f =
-        (λ i. noting (m i) (f i))
-        ∙ (λ i. by-tests ((sym (both-left b (ltb count (roomOf list)) h) ∙ e) i) (sym (both-right b (ltb count (roomOf list)) h) i))
+  pub note-outside : {b : Bool} → b ≡ inStretch first last address → not b ≡ true → noting count list ≡ due
+  note-outside {b} e h = ap (λ (t : Bool). by-tests t (ltb count (roomOf list))) (sym (not-true b h) ∙ e)
 
-    -- no room, or outside
-    pub note-rest : count < 2 ^ 64 → (b && ltb count (roomOf list)) ≡ false → {n : ℕ} → n ≡ cond b 1 0 → {r : ℕ} → r ≡ capped (count + n) → noting r list ≡ due
-    note-rest l h {n} g {r} m = ap (λ (k : ℕ). noting k list) (m ∙ ap (λ (k : ℕ). capped (count + k)) g) ∙ go b h ∙ ap (λ (t : Bool). by-tests t (ltb count (roomOf list))) e
-      where
-        go : (t : Bool) → (t && ltb count (roomOf list)) ≡ false → noting (capped (count + cond t 1 0)) list ≡ by-tests t (ltb count (roomOf list))
-        go true k = ap (λ (u : Bool). by-tests true u) (sym k)
-        go false k = let z : count + 0 ≡ count = omega arith in λ t. noting ((sym (plus-counts count 0 (omega arith)) ∙ z) t) list
+  module _ {b : Bool} (e : b ≡ inStretch first last address) (h : not b ≡ false) {r : ℕ} (m : r ≡ capped (count + 1)) where
+    pub note-full : roomOf list ≤ count → noting r list ≡ due
+    note-full l =
+        ap (λ (n : ℕ). noting n list) m
+        ∙ (λ i. by-tests ((sym (not-false b h) ∙ e) i) (sym (le-ltb count (roomOf list) l) i))
+
+    pub note-room : count < roomOf list → {next : List ℕ} → next ≡ sets list (4 * count) (pair ∷ address ∷ before ∷ after ∷ []) → noting r next ≡ due
+    note-room l {next} f =
+        (λ i. noting (m i) (f i))
+        ∙ (λ i. by-tests ((sym (not-false b h) ∙ e) i) (sym (lt-ltb count (roomOf list) l) i))
 
 -- the list stays as long as it was
 pub entered-long : (x : Store) (n : Noting) → length (entered x n .list) ≡ length (n .list)

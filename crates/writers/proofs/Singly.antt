@@ -2,7 +2,7 @@
 use mathlib.Core.Path.{_≡_, refl, ap, sym, _∙_}
 use mathlib.Core.Bool.{Bool, true, false, cond, true≢false}
 use mathlib.Core.List.{List}
-use Prim.Native.Nat.{ℕ, _/_, _%_, _<_}
+use Prim.Native.Nat.{ℕ, zero, suc, _/_, _%_, _<_}
 use native.Mathlib.Omega.{arith}
 use lib.Dec.{ltb, eqb}
 use lib.ListN.{getD}
@@ -12,7 +12,8 @@ use Rattle.codes.specs.Command.{transferOf, sightCodeOf, bitCodeOf, groupOf, de
 use Rattle.controller.specs.Types.{Decoded, Defined, Store, Up, Down, Stay}
 use Rattle.stores.specs.Stores.{codeStores}
 use Rattle.writers.specs.Types.{Panel, Registers}
-use Rattle.writers.specs.Ready.{Singles}
+use Rattle.writers.specs.Stretch as stretch
+use Rattle.writers.specs.Ready.{Noting, notedBy, notedEach, Noted, Singles}
 
 module _ (p : Panel) (r : Registers) where
   record NoneBy (x : Decoded) : Type 0 where
@@ -69,3 +70,19 @@ module _ {k : ℕ} where
 
   pub none-other : (k / 16 ≡ 12 → ⊥) → (k / 16 ≡ 15 → ⊥) → Singles k 0
   none-other a c = record { few = omega arith; counts = λ s p r. group-none p r (k / 16) (k % 16) a s c .stores }
+
+-- one noted, or none
+module _ {first last k n : ℕ} (s : Singles k n) (x : stretch.Store) (low : x .address < 65536) (before : Noting) where
+  pub one-noted : n ≡ 1 → {y : Noting} → y ≡ notedBy first last x before → Noted first last k x before y
+  unfolding notedEach
+  one-noted e h =
+      record {
+        low = low;
+        notes = λ o p r f i. h ∙ (λ t. notedBy first last (sym i t) before) ∙ ap (λ (j : ℕ). notedEach first last f j before) (sym (s .counts o p r ∙ e));
+      }
+
+  pub none-noted : (n ≡ 1 → ⊥) → Noted first last k x before before
+  unfolding notedEach
+  none-noted e =
+      let z : n ≡ 0 = omega (arith, s .few, e) in
+      record { low = low; notes = λ o p r f i. ap (λ (j : ℕ). notedEach first last f j before) (sym (s .counts o p r ∙ z)) }

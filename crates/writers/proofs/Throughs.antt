@@ -6,7 +6,7 @@ use Prim.Native.Nat.{ℕ, _+_, _-_, _/_, _%_, _<_, _≤_}
 use native.Mathlib.Omega.{arith}
 use lib.Dec.{eqb}
 use lib.ListN.{length, getD}
-use borrow.Author.Tests.{eq-eqb, eqb-true, eqb-false, not-true}
+use borrow.Author.Tests.{eq-eqb, not-true}
 use Rattle.ground.proofs.Tests.{both-left, both-right}
 use Rattle.state.specs.State.{validPanel}
 use Rattle.state.specs.Combination.{isAttribute}
@@ -24,8 +24,8 @@ use Rattle.usual.specs.Ready.{Tells}
 use Rattle.stores.specs.Stores.{copyStores, commandStores, codeStores, storesOf, storesAsked, fromAddress}
 use Rattle.writers.specs.Types.{Panel, Display, Bus, Registers, Acted, Told, Said}
 use Rattle.writers.specs.Stretch.{store, storeAt}
-use Rattle.writers.specs.Ready.{Noting, noting, notedBy, notedEach, Held, Singles, Says, Behind, behind, behindBy}
-use Rattle.writers.proofs.Notes.{notes-none, notes-one, notes-same, storesBy}
+use Rattle.writers.specs.Ready.{Noting, noting, notedEach, Held, Noted, Says, Behind, behind, behindBy}
+use Rattle.writers.proofs.Notes.{notes-same, storesBy}
 
 -- a pair stores at most eighty bytes
 stores-few : (p : Panel) → validPanel p ≡ true → (r : Registers) (q : Pair) → storesOf p r q ≤ 80
@@ -67,54 +67,36 @@ stores-few p v r q = go (eqb (q .kind) 0) (eqb (q .kind) 1)
     go false true = codes (decodeOf (q .byte))
     go false false = omega arith
 
--- a command told is none of E0H to EFH
-told-other : {b : Bus} {mem : List ℕ} (still : Bool) {k : ℕ} {told : Told} {after : List ℕ} → Tells b mem (still && not (eqb (k / 16) 14)) k told after
-    → told .done ≡ true → k / 16 ≡ 14 → ⊥
-told-other still {k = k} t d e =
-    true≢false (sym (eq-eqb (k / 16) 14 e) ∙ not-true (eqb (k / 16) 14) (both-right still (not (eqb (k / 16) 14)) (t .quiet d)))
-
 -- a command told, or left
 module _ {first last pair : ℕ} {b : Bus} {mem : List ℕ} {still : Bool} {k : ℕ} {told : Told} {after : List ℕ}
     (t : Tells b mem (still && not (eqb (k / 16) 14)) k told after) {count : ℕ} {list : List ℕ} where
-  -- a byte stored
-  pub says-stored : {n : ℕ} → Singles k n → (told .done && eqb n 1) ≡ true → b .pointer < 65536 → {was : ℕ} → was ≡ getD mem (b .pointer) 0 → {x : Noting}
-      → x ≡ notedBy first last (store pair (b .pointer) was (getD after (b .pointer) 0)) (noting count list)
-      → Says first last pair b mem still k (noting count list) (record { bus = told .bus; count = x .count; done = true }) after (x .list)
-  says-stored {n} s h low {was} w {x} f =
+  pub says-done : told .done ≡ true → {was : ℕ} → was ≡ getD mem (b .pointer) 0 → {next : ℕ} {list′ : List ℕ}
+      → Noted first last k (store pair (b .pointer) was (getD after (b .pointer) 0)) (noting count list) (noting next list′)
+      → Says first last pair b mem still k (noting count list) (record { bus = told .bus; count = next; done = true }) after list′
+  says-done d {was} w {next} {list′} n =
       record {
         quiet = λ e. both-left still (not (eqb (k / 16) 14)) (t .quiet d);
         acts = λ e. t .acts d;
-        notes = λ e p v. f
-            ∙ (λ j. notedBy first last (store pair (here j) ((w ∙ (λ j. getD mem (here j) 0)) j) (getD after (here j) 0)) (noting count list))
-            ∙ notes-one first last (storeAt pair (machine (record { display = v; bus = b }) mem) (machine (record { display = v; bus = told .bus }) after)) (noting count list)
-            ∙ ap (λ (j : ℕ). notedEach first last (storeAt pair (machine (record { display = v; bus = b }) mem) (machine (record { display = v; bus = told .bus }) after)) j (noting count list))
-            (sym (s .counts (told-other still t d) p (record { display = v; bus = b }) ∙ eqb-true n 1 (both-right (told .done) (eqb n 1) h)));
+        notes = λ e p s. n .notes other p (record { display = s; bus = b })
+            (storeAt pair (machine (record { display = s; bus = b }) mem) (machine (record { display = s; bus = told .bus }) after))
+            (λ j. store pair (sym here j) (((λ j. getD mem (sym here j) 0) ∙ sym w) j) (getD after (sym here j) 0));
         keeps = λ e. absurd (true≢false e);
       }
     where
-      d : told .done ≡ true
-      d = both-left (told .done) (eqb n 1) h
-
       here : b .pointer ≡ fromAddress (b .pointer) 0
-      here = omega arith
+      here = let low = n .low in omega arith
 
-  -- none stored, or the command left
-  pub says-other : {n : ℕ} → Singles k n → (told .done && eqb n 1) ≡ false
-      → Says first last pair b mem still k (noting count list) (record { bus = told .bus; count = count; done = told .done }) after list
-  says-other {n} s h =
+      other : k / 16 ≡ 14 → ⊥
+      other e = true≢false (sym (eq-eqb (k / 16) 14 e) ∙ not-true (eqb (k / 16) 14) (both-right still (not (eqb (k / 16) 14)) (t .quiet d)))
+
+  pub says-left : told .done ≡ false → Says first last pair b mem still k (noting count list) (record { bus = b; count = count; done = false }) after list
+  says-left d =
       record {
-        quiet = λ e. both-left still (not (eqb (k / 16) 14)) (t .quiet e);
-        acts = t .acts;
-        notes = λ e p v. notes-none first last (storeAt pair (machine (record { display = v; bus = b }) mem) (machine (record { display = v; bus = told .bus }) after)) (noting count list)
-            ∙ ap (λ (j : ℕ). notedEach first last (storeAt pair (machine (record { display = v; bus = b }) mem) (machine (record { display = v; bus = told .bus }) after)) j (noting count list))
-            (sym (s .counts (told-other still t e) p (record { display = v; bus = b }) ∙ zero-of e));
-        keeps = λ e. (t .keeps e, refl);
+        quiet = λ e. absurd (false≢true e);
+        acts = λ e. absurd (false≢true e);
+        notes = λ e. absurd (false≢true e);
+        keeps = λ e. (t .keeps d, refl);
       }
-    where
-      zero-of : told .done ≡ true → n ≡ 0
-      zero-of e =
-          let o : (n ≡ 1 → ⊥) = eqb-false n 1 (sym (ap (λ (u : Bool). u && eqb n 1) e) ∙ h) in
-          omega (arith, s .few, o)
 
 -- any pair, by a whole access
 module _ {p : Panel} {r : Registers} {mem rom : List ℕ} (k : Runs p r mem rom) (q : Pair) where
@@ -124,10 +106,6 @@ module _ {p : Panel} {r : Registers} {mem rom : List ℕ} (k : Runs p r mem rom)
   pub asked-few : {n : ℕ} → n ≡ storesAsked p r q → n ≤ 80
   asked-few e = subst (λ (j : ℕ). j ≤ 80) (sym (e ∙ asked)) (stores-few p (k .panel) r q)
 
-  pub kept-few : {n : ℕ} → n ≡ storesAsked p r q → (t : Bool) {m : ℕ} → m ≡ cond t n 0 → m ≤ 80
-  kept-few e true c = let h = asked-few e in omega arith
-  kept-few e false c = omega arith
-
   module _ (first last pair count : ℕ) (list : List ℕ) {a : Acted} {after : List ℕ} (e : replied a after ≡ accessOf p r mem rom q) where
     abbrev due : Step Machine → Behind
     due o = behindBy p first last pair (machine r mem) q (noting count list) o
@@ -136,7 +114,7 @@ module _ {p : Panel} {r : Registers} {mem rom : List ℕ} (k : Runs p r mem rom)
     gone r′ m = behind (machine r′ m) (notedEach first last (storeAt pair (machine r mem) (machine r′ m)) (storesOf p r q) (noting count list))
 
     -- accepted: the bytes it stored, those before as they were held
-    through-accepted : a .number ≡ 0 → {n : ℕ} → n ≡ storesAsked p r q → {before : List ℕ} → Held mem (r .bus .pointer) n before
+    pub through-accepted : a .number ≡ 0 → {n : ℕ} → n ≡ storesAsked p r q → {before : List ℕ} → Held mem (r .bus .pointer) n before
         → {x : Noting} → x ≡ notedEach first last (storesBy pair (r .bus .pointer) before after) n (noting count list)
         → behind (machine (a .registers) after) x ≡ due (stepOf p rom (machine r mem) q)
     through-accepted z {n} s {before} h {x} f =
@@ -158,25 +136,10 @@ module _ {p : Panel} {r : Registers} {mem rom : List ℕ} (k : Runs p r mem rom)
             absurd (let y : ⊥ = omega (arith, low .0) in y)
 
     -- refused: all as it was
-    through-refused : (a .number ≡ 0 → ⊥) → behind (machine (a .registers) after) (noting count list) ≡ due (stepOf p rom (machine r mem) q)
+    pub through-refused : (a .number ≡ 0 → ⊥) → behind (machine (a .registers) after) (noting count list) ≡ due (stepOf p rom (machine r mem) q)
     through-refused z = go (stepOf p rom (machine r mem) q) (e ∙ access-runs k q)
       where
         go : (o : Step Machine) → replied a after ≡ actedOf r mem o → behind (machine (a .registers) after) (noting count list) ≡ due o
         go (done t) i = absurd (z (ap (λ (y : Accessed). y .acted .number) i))
         go (answered t c) i = absurd (z (ap (λ (y : Accessed). y .acted .number) i))
         go (refused c) i = λ j. behind (machine (i j .acted .registers) (i j .memory)) (noting count list)
-
-    -- noted so many if it is accepted, else none
-    pub through-either : {n : ℕ} → n ≡ storesAsked p r q → {m : ℕ} → m ≡ cond (eqb (a .number) 0) n 0 → {before : List ℕ} → Held mem (r .bus .pointer) n before
-        → {x : Noting} → x ≡ notedEach first last (storesBy pair (r .bus .pointer) before after) m (noting count list)
-        → behind (machine (a .registers) after) x ≡ due (stepOf p rom (machine r mem) q)
-    through-either {n} s {m} c {before} h {x} f = go (eqb (a .number) 0) refl
-      where
-        noted-by : (t : Bool) → eqb (a .number) 0 ≡ t → x ≡ notedEach first last (storesBy pair (r .bus .pointer) before after) (cond t n 0) (noting count list)
-        noted-by t e = f ∙ ap (λ (j : ℕ). notedEach first last (storesBy pair (r .bus .pointer) before after) j (noting count list)) (c ∙ ap (λ (u : Bool). cond u n 0) e)
-
-        go : (t : Bool) → eqb (a .number) 0 ≡ t → behind (machine (a .registers) after) x ≡ due (stepOf p rom (machine r mem) q)
-        go true e = through-accepted (eqb-true (a .number) 0 e) s h (noted-by true e)
-        go false e =
-            ap (behind (machine (a .registers) after)) (noted-by false e ∙ sym (notes-none first last (storesBy pair (r .bus .pointer) before after) (noting count list)))
-            ∙ through-refused (eqb-false (a .number) 0 e)

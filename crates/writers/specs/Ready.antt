@@ -83,6 +83,11 @@ pub record Singles (k n : ℕ) : Type 0 where
   pub few : n < 2
   pub counts : (k / 16 ≡ 14 → ⊥) → (p : Panel) (r : Registers) → codeStores p r (decodeOf k) ≡ n
 
+-- a command's store noted, if it stores a byte
+pub record Noted (first last k : ℕ) (x : Store) (before noted : Noting) : Type 0 where
+  pub low : x .address < 65536
+  pub notes : (k / 16 ≡ 14 → ⊥) → (p : Panel) (r : Registers) (f : ℕ → Store) → f 0 ≡ x → noted ≡ notedEach first last f (codeStores p r (decodeOf k)) before
+
 -- a command done as a step does it, whatever the display, and its store noted; or left, and all is as it was
 pub record Says (first last pair : ℕ) (b : Bus) (mem : List ℕ) (still : Bool) (k : ℕ) (before : Noting) (said : Said) (after list : List ℕ) : Type 0 where
   pub quiet : said .done ≡ true → still ≡ true

@@ -8,7 +8,6 @@ ghost use Rattle.writers.specs.Ready.{noting, Spans, Blocks, Fills, Lays
 use super::note::in_stretch;
 use super::note::plus;
 use super::note::put_entry;
-use super::note::when;
 use ground::bytes::lesser;
 use state::registers::Bus;
 
@@ -108,10 +107,13 @@ pub(crate) fn lay(
         };
     }
     let n = block(mem, at, log, from, near);
-    Laid {
-        pairs: n,
-        count: plus(count, when(inside, n)),
+    if inside {
+        return Laid {
+            pairs: n,
+            count: plus(count, n),
+        };
     }
+    Laid { pairs: n, count }
 }
 
 // The pointer behind a block of so many data, all else as it was.

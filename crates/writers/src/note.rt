@@ -1,6 +1,5 @@
 // Stores entered in the list.
 ghost use mathlib.Core.Path.{_≡_};
-ghost use mathlib.Core.Bool.{cond};
 ghost use mathlib.Core.List.{[], _∷_};
 ghost use Prim.Native.Nat.{_+_, _*_, _<_, _≤_};
 ghost use lib.ListN.{length, getD};
@@ -8,7 +7,7 @@ ghost use lib.Seq.{sets};
 ghost use Rattle.stores.specs.Stores.{fromAddress};
 ghost use Rattle.writers.specs.Stretch.{store, inStretch};
 ghost use Rattle.writers.specs.Listed.{capped};
-ghost use Rattle.writers.specs.Ready.{noting, notedBy, notedEach, Singles, Held};
+ghost use Rattle.writers.specs.Ready.{noting, notedBy, notedEach, Noted, Singles, Held};
 
 pub(crate) fn in_stretch(first: u16, last: u16, address: u16) -> bool
     ensures { λ r. ⌜ r ≡ inStretch first last address ⌝ }
@@ -30,16 +29,6 @@ pub(crate) fn plus(count: usize, n: usize) -> usize
     count + n
 }
 
-// So many, or none.
-pub(crate) fn when(on: bool, n: usize) -> usize
-    ensures { λ r. ⌜ r ≡ cond on n 0 ⌝ }
-{
-    if on {
-        return n;
-    }
-    0
-}
-
 pub(crate) fn put_entry(
     list: &mut [usize],
     at: usize,
@@ -58,7 +47,7 @@ pub(crate) fn put_entry(
 }
 
 // One store, if it is in the stretch: counted, and listed where there is room. The entries needed so far.
-pub(crate) fn note(
+fn note(
     list: &mut [usize],
     count: usize,
     pair: usize,
@@ -70,16 +59,18 @@ pub(crate) fn note(
 ) -> usize
     ensures { λ r. ⌜ noting r (now (list .exit)) ≡ notedBy first last (store pair address before after) (noting count (now (list .entry))) ⌝ }
 {
-    let inside = in_stretch(first, last, address);
-    if inside & (count < list.len() / 4) {
-        put_entry(list, 4 * count, pair, address as usize, before, after);
-        return count + 1;
+    if !in_stretch(first, last, address) {
+        return count;
     }
-    plus(count, when(inside, 1))
+    if list.len() / 4 <= count {
+        return plus(count, 1);
+    }
+    put_entry(list, 4 * count, pair, address as usize, before, after);
+    plus(count, 1)
 }
 
 // How many bytes a command stores, by its code: none or one; not asked about E0H to EFH, a copy among them.
-pub(crate) fn single(code: u8) -> usize
+fn single(code: u8) -> usize
     ensures { λ r. ⌜ Singles code r ⌝ }
 {
     let high = code / 16;
@@ -94,6 +85,28 @@ pub(crate) fn single(code: u8) -> usize
         15 => 1,
         _ => 0,
     }
+}
+
+// The one byte that a command stored, or none: `was` is the byte there before.
+pub(crate) fn note_one(
+    list: &mut [usize],
+    count: usize,
+    pair: usize,
+    at: u16,
+    was: u8,
+    mem: &[u8],
+    code: u8,
+    first: u16,
+    last: u16,
+) -> usize
+    requires { ⌜ length (now mem) ≡ 65536 ⌝ }
+    ensures { λ r. ⌜ Noted first last code (store pair at was (getD (now (mem .entry)) at 0)) (noting count (now (list .entry))) (noting r (now (list .exit))) ⌝ }
+{
+    if single(code) == 1 {
+        let after = mem[at as usize];
+        return note(list, count, pair, at, was, after, first, last);
+    }
+    count
 }
 
 // The bytes from an address on, before a pair stores there.

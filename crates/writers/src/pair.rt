@@ -6,10 +6,8 @@ ghost use Rattle.controller.specs.Access.{stepOf};
 ghost use Rattle.controller.specs.Ready.{Runs};
 ghost use Rattle.writers.specs.Ready.{noting, Says, behind, behindBy};
 use super::note::hold;
-use super::note::note;
 use super::note::note_all;
-use super::note::single;
-use super::note::when;
+use super::note::note_one;
 use single::access::access;
 use state::panel::Panel;
 use state::registers::Bus;
@@ -49,10 +47,9 @@ pub(crate) fn say(
 {
     let was = mem[bus.pointer as usize];
     let told = tell(bus, mem, quiet & (code / 16 != 14), code);
-    let next = told.bus;
-    if told.done & (single(code) == 1) {
-        let after = mem[bus.pointer as usize];
-        let noted = note(list, count, pair, bus.pointer, was, after, first, last);
+    if told.done {
+        let noted = note_one(list, count, pair, bus.pointer, was, mem, code, first, last);
+        let next = told.bus;
         return Said {
             bus: next,
             count: noted,
@@ -60,9 +57,9 @@ pub(crate) fn say(
         };
     }
     Said {
-        bus: next,
+        bus,
         count,
-        done: told.done,
+        done: false,
     }
 }
 
@@ -90,21 +87,27 @@ pub(crate) fn through(
     let acted = access(panel, registers, mem, rom, kind, byte);
     let next = acted.registers.display;
     let then = acted.registers.bus;
-    let stored = when(acted.number == 0, all);
-    let noted = note_all(
-        list,
-        count,
-        pair,
-        bus.pointer,
-        stored,
-        &before,
-        mem,
-        first,
-        last,
-    );
+    if acted.number == 0 {
+        let noted = note_all(
+            list,
+            count,
+            pair,
+            bus.pointer,
+            all,
+            &before,
+            mem,
+            first,
+            last,
+        );
+        return Gone {
+            display: next,
+            bus: then,
+            count: noted,
+        };
+    }
     Gone {
         display: next,
         bus: then,
-        count: noted,
+        count,
     }
 }

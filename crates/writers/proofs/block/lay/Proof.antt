@@ -1,11 +1,10 @@
--- `lay` meets its contract: in the stretch with room, or else.
-use Prim.Native.Nat.{_/_}
-use mathlib.Core.Path.{refl}
+-- `lay` meets its contract: in the stretch with room, in it without, outside it.
 use native.Mathlib.Omega.{arith}
+use Prim.Native.Nat.{_/_}
 use lib.ListN.{length}
+use mathlib.Core.Path.{refl}
 use borrow.Author.Needs.{needs}
-use Rattle.writers.proofs.Laying.{near-few, near-below, lays-filled, lays-rest}
-use Rattle.writers.proofs.Notes.{with-room}
+use Rattle.writers.proofs.Laying.{near-few, with-room, near-below, lays-filled, lays-counted, lays-passed}
 use Rattle.writers.proofs.block.lay.Statement.{statement}
 use Rattle.writers.proofs.block.lay.Tie as tie
 
@@ -46,9 +45,6 @@ returns c = lays-filled (c .before .before .before .before .before .before .befo
 block-requires : tie.Need-block-requires
 block-requires c κs = let f = near-few (c .before .before .before .before .before .before .before .before .args .left) (c .before .before .lesser .result) (c .before .before .before .before .in-stretch .ensures) (c .before .before .before .span .ensures) (c .before .before .lesser .ensures) in (c .before .before .before .before .before .before .before .before .pre .0, (omega (arith, f, c .before .before .before .before .before .before .before .before .pre .1), f .0))
 
-when-requires : tie.Need-when-requires
-when-requires c κs = search needs
-
 plus-requires : tie.Need-plus-requires
 plus-requires c κs = search needs
 
@@ -56,7 +52,13 @@ same-length-3 : tie.Need-same-length-3
 same-length-3 c = search needs
 
 returns-2 : tie.Need-returns-2
-returns-2 c = lays-rest (c .before .before .before .before .before .before .before .before .before .before .before .before .before .args .left) (c .before .before .before .before .before .before .before .lesser .result) (c .before .before .before .before .before .before .before .before .before .in-stretch .ensures) (c .before .before .before .before .before .before .before .before .span .ensures) (c .before .before .before .before .before .before .before .lesser .ensures) refl (omega arith) (c .before .before .before .before .before .before .if1 .left) (c .before .before .before .before .block .ensures) (c .before .when .ensures) (c .plus .ensures)
+returns-2 c = lays-counted (c .before .before .before .before .before .before .before .before .before .before .before .before .before .args .left) (c .before .before .before .before .before .before .before .lesser .result) (c .before .before .before .before .before .before .before .before .before .in-stretch .ensures) (c .before .before .before .before .before .before .before .before .span .ensures) (c .before .before .before .before .before .before .before .lesser .ensures) refl (omega arith) (c .before .before .before .before .before .before .if1 .left) (c .before .if2 .taken) (c .before .before .before .before .block .ensures) (c .plus .ensures)
+
+same-length-4 : tie.Need-same-length-4
+same-length-4 c = search needs
+
+returns-3 : tie.Need-returns-3
+returns-3 c = lays-passed (c .before .before .before .before .before .before .before .before .before .before .before .before .args .left) (c .before .before .before .before .before .before .lesser .result) (c .before .before .before .before .before .before .before .before .in-stretch .ensures) (c .before .before .before .before .before .before .before .span .ensures) (c .before .before .before .before .before .before .lesser .ensures) (c .if2 .left) (c .before .before .before .block .ensures)
 
 pub lay-spec : {M : Type 1} → statement M
 lay-spec =
@@ -73,7 +75,8 @@ lay-spec =
     same-length-2
     returns
     block-requires
-    when-requires
     plus-requires
     same-length-3
-    returns-2)
+    returns-2
+    same-length-4
+    returns-3)

@@ -1,49 +1,47 @@
 -- `note` meets its contract.
 use native.Mathlib.Omega.{arith}
+use Rattle.writers.proofs.Notes.{note-outside, note-full, note-room}
 use borrow.Author.Needs.{needs}
-use Rattle.writers.proofs.Notes.{plus-counts, with-room, note-room, note-rest}
-use Prim.Native.Nat.{_/_}
-use lib.ListN.{length}
 use Rattle.writers.proofs.note.note.Statement.{statement}
 use Rattle.writers.proofs.note.note.Tie as tie
 
 in-stretch-requires : tie.Need-in-stretch-requires
 in-stretch-requires c κs = search needs
 
-mul-put-entry : tie.Need-mul-put-entry
-mul-put-entry c = let h = with-room (c .before .before .in-stretch .result) (c .before .before .before .before .args .count) (length (c .before .before .before .before .args .list .now) / 4) (c .before .if1 .taken) in omega (arith, h)
-
-put-entry-requires : tie.Need-put-entry-requires
-put-entry-requires c κs = let h = with-room (c .before .before .in-stretch .result) (c .before .before .before .before .args .count) (length (c .before .before .before .before .args .list .now) / 4) (c .before .if1 .taken) in omega (arith, h)
-
-add-result : tie.Need-add-result
-add-result c = let h = with-room (c .before .before .before .before .before .in-stretch .result) (c .before .before .before .before .before .before .before .args .count) (length (c .before .before .before .before .before .before .before .args .list .now) / 4) (c .before .before .before .before .if1 .taken) in omega (arith, h)
-
-same-length : tie.Need-same-length
-same-length c = search needs
-
 returns : tie.Need-returns
-returns c = let h = with-room (c .before .before .before .before .before .in-stretch .result) (c .before .before .before .before .before .before .before .args .count) (length (c .before .before .before .before .before .before .before .args .list .now) / 4) (c .before .before .before .before .if1 .taken) in note-room (c .before .before .before .before .before .before .before .args .first) (c .before .before .before .before .before .before .before .args .last) (c .before .before .before .before .before .before .before .args .count) (c .before .before .before .before .before .before .before .args .pair) (c .before .before .before .before .before .before .before .args .address) (c .before .before .before .before .before .before .before .args .before) (c .before .before .before .before .before .before .before .args .after) (c .before .before .before .before .before .before .before .args .list .now) (c .before .before .before .before .before .in-stretch .ensures) (c .before .before .before .before .if1 .taken) (plus-counts (c .before .before .before .before .before .before .before .args .count) 1 (omega (arith, h))) (c .before .before .put-entry .ensures)
-
-when-requires : tie.Need-when-requires
-when-requires c κs = search needs
+returns c = note-outside (c .before .before .before .args .first) (c .before .before .before .args .last) (c .before .before .before .args .count) (c .before .before .before .args .pair) (c .before .before .before .args .address) (c .before .before .before .args .before) (c .before .before .before .args .after) (c .before .before .before .args .list .now) (c .before .in-stretch .ensures) (c .if1 .taken)
 
 plus-requires : tie.Need-plus-requires
 plus-requires c κs = search needs
 
 returns-2 : tie.Need-returns-2
-returns-2 c = note-rest (c .before .before .before .before .before .args .first) (c .before .before .before .before .before .args .last) (c .before .before .before .before .before .args .count) (c .before .before .before .before .before .args .pair) (c .before .before .before .before .before .args .address) (c .before .before .before .before .before .args .before) (c .before .before .before .before .before .args .after) (c .before .before .before .before .before .args .list .now) (c .before .before .before .in-stretch .ensures) (omega arith) (c .before .before .if1 .left) (c .before .when .ensures) (c .plus .ensures)
+returns-2 c = note-full (c .before .before .before .before .before .args .first) (c .before .before .before .before .before .args .last) (c .before .before .before .before .before .args .count) (c .before .before .before .before .before .args .pair) (c .before .before .before .before .before .args .address) (c .before .before .before .before .before .args .before) (c .before .before .before .before .before .args .after) (c .before .before .before .before .before .args .list .now) (c .before .before .before .in-stretch .ensures) (c .before .before .if1 .left) (c .plus .ensures) (c .before .if2 .taken)
+
+mul-put-entry : tie.Need-mul-put-entry
+mul-put-entry c = search needs
+
+put-entry-requires : tie.Need-put-entry-requires
+put-entry-requires c κs = search needs
+
+plus-requires-2 : tie.Need-plus-requires-2
+plus-requires-2 c κs = search needs
+
+same-length : tie.Need-same-length
+same-length c = search needs
+
+returns-3 : tie.Need-returns-3
+returns-3 c = note-room (c .before .before .before .before .before .before .before .before .before .args .first) (c .before .before .before .before .before .before .before .before .before .args .last) (c .before .before .before .before .before .before .before .before .before .args .count) (c .before .before .before .before .before .before .before .before .before .args .pair) (c .before .before .before .before .before .before .before .before .before .args .address) (c .before .before .before .before .before .before .before .before .before .args .before) (c .before .before .before .before .before .before .before .before .before .args .after) (c .before .before .before .before .before .before .before .before .before .args .list .now) (c .before .before .before .before .before .before .before .in-stretch .ensures) (c .before .before .before .before .before .before .if1 .left) (c .plus2 .ensures) (c .before .before .before .before .before .if2 .left) (c .before .before .before .put-entry .ensures)
 
 pub note-spec : {M : Type 1} → statement M
 note-spec =
     tie.close
     (tie.spec
     in-stretch-requires
+    returns
+    plus-requires
+    returns-2
     mul-put-entry
     put-entry-requires
-    add-result
+    plus-requires-2
     same-length
-    returns
-    when-requires
-    plus-requires
-    returns-2)
+    returns-3)
