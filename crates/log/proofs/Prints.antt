@@ -2,23 +2,20 @@
 use mathlib.Core.Path.{_≡_, refl, ap, sym, subst, _∙_}
 use mathlib.Core.Bool.{Bool, true, false, cond, _&&_, _||_}
 use mathlib.Core.List.{List, [], _++_, append-nil}
-use mathlib.Core.Logic.{⊎-elim}
 use Prim.Native.Nat.{ℕ, _+_, _-_, _*_, _/_, _%_, _≤_, _<_, min}
-use native.Mathlib.Nat.{mul-le-mul}
 use native.Mathlib.Decide.{decLt}
 use native.Mathlib.Omega.{arith}
 use lib.Dec.{leb, eqb}
-use lib.ListN.{length, take, drop, replicate, length-drop, length-replicate, drop-of-length-le, List·getD-eq-default}
+use lib.ListN.{length, take, drop, length-drop, drop-of-length-le}
 use lib.Seq.{take-all, take-nil, length-take-le}
 use borrow.Author.Tests.{le-leb, eq-eqb, ne-eqb, eqb-false}
-use Rattle.ground.specs.Lists.{build, zeros}
+use Rattle.ground.specs.Lists.{zeros}
 use Rattle.ground.specs.Packing.{rowBytes}
-use Rattle.ground.proofs.Lists.{build-length, joined-length}
 use Rattle.ground.proofs.Tests.{both, both-left}
 use Rattle.state.specs.State.{validPanel, validRegisters, resetRegisters}
 use Rattle.display.specs.Frame.{frameOf, lentLengths, frameFits, painted, Painted, paintOf, replyOf}
 use Rattle.display.proofs.Painted.{paint-length}
-use Rattle.state.proofs.Valid.{Panelled, panelled, narrow}
+use Rattle.state.proofs.Valid.{Panelled, panelled}
 use Rattle.controller.specs.Types.{Panel, Registers}
 use Rattle.state.specs.declared.reply.Reply.{Reply}
 use Rattle.controller.specs.declared.run.Ran.{Ran}
@@ -56,19 +53,6 @@ log-is l {s} {e} i j = go (decLt (length l) 3) (decLt (length l) 16387)
         let a : s ≡ 3 = omega arith in
         let b : e ≡ 16387 = omega arith in
         λ q. take (b q - a q) (drop (a q) l)
-
--- a valid panel's bytes are all there
-pub panel-whole : (input : List ℕ) {p : Panel} → p ≡ panelIn false input → validPanel p ≡ true → 3 ≤ length input
-panel-whole input {p} i v = go (decLt (length input) 3)
-  where
-    wide : 6 ≤ p .width
-    wide = ⊎-elim (λ e. omega arith) (λ e. omega arith) (panelled p v .width)
-
-    go : Dec (length input < 3) → 3 ≤ length input
-    go (yes h) =
-        let e : p .width ≡ 0 = ap (λ (q : Panel). q .width) i ∙ List·getD-eq-default input 0 (omega arith) in
-        absurd (omega (arith, wide))
-    go (no h) = omega arith
 
 -- past the doors a painting is the frame
 pub drawn : {p : Panel} {r : Registers} {mem rom frame out : List ℕ} {at : ℕ} → FrameReady p r mem rom frame out at
