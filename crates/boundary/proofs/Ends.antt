@@ -10,9 +10,9 @@ use borrow.Author.Tests.{eq-eqb, ne-eqb}
 use Rattle.ground.specs.Bytes.{wordOf}
 use Rattle.ground.proofs.Tests.{settled}
 use Rattle.state.specs.State.{resetRegisters}
-use Rattle.display.specs.declared.seen.Seen.{Seen}
+use Rattle.sight.specs.declared.seen.Seen.{Seen}
 use Rattle.display.specs.Frame.{painted, paintOf}
-use Rattle.display.specs.Layers.{layersOf}
+use Rattle.sight.specs.Seen.{layersOf}
 use Rattle.controller.specs.Access.{Pair, replied, accessOf}
 use Rattle.controller.specs.Run.{ranAll, stoppingOf}
 use Rattle.controller.specs.Skip.{ranOnAll, runOf}

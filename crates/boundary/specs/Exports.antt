@@ -6,9 +6,9 @@ use lib.Dec.{eqb}
 use lib.ListN.{length}
 use Rattle.ground.specs.Bytes.{wordOf}
 use Rattle.state.specs.State.{resetRegisters}
-use Rattle.display.specs.declared.seen.Seen.{Seen}
+use Rattle.sight.specs.declared.seen.Seen.{Seen}
 use Rattle.display.specs.Frame.{Painted, paintOf}
-use Rattle.display.specs.Layers.{layersOf}
+use Rattle.sight.specs.Seen.{layersOf}
 use Rattle.controller.specs.Access.{Pair, Accessed, accessOf}
 use Rattle.controller.specs.Run.{RanAll, stoppingOf}
 use Rattle.controller.specs.Skip.{RanOnAll, runOf}

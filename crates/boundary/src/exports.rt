@@ -5,7 +5,6 @@ ghost use Rattle.boundary.specs.Exports.{accessEnd, accessBytes, runEnd,
 use controller::run::run;
 use controller::run::run_stopping;
 use display::frame::paint;
-use display::seen::layers;
 use ground::bytes::word;
 use image::door::Entry;
 use image::door::count;
@@ -14,6 +13,7 @@ use image::door::enter;
 use image::door::keep;
 use image::door::marked;
 use image::image::encode;
+use sight::seen::layers;
 use single::access::access;
 use state::registers::Registers;
 

@@ -12,21 +12,12 @@ use libc::STDOUT_FILENO;
 use printed::input::byte_in;
 use printed::input::panel_in;
 use printed::input::rest_in;
+use report::put_refusal;
 use report::read_whole;
 use report::report;
 
 // The longest short stream: 24,064 bytes differ and there is a cursor.
 const MOST: usize = 120326;
-
-fn put_field(word: &[u8], n: usize) -> bool {
-    io::write_all(STDERR_FILENO, word) & io::print_decimal(STDERR_FILENO, n as u64)
-}
-
-fn put_refusal(number: u8, place: usize) -> bool {
-    let first = put_field(b"refusal ", number as usize);
-    let second = put_field(b" place ", place);
-    first & second & io::write_all(STDERR_FILENO, b"\n")
-}
 
 fn give(room: &[u8], pairs: usize) -> bool {
     let end = lesser(2 * lesser(pairs, MOST), room.len());
@@ -49,7 +40,7 @@ fn change(dual: bool, input: &[u8]) {
     let mut room = empty_room();
     let written = write_change(panel, book, a, b, &mut room);
     if written.number != 0 {
-        if put_refusal(written.number, written.place) {
+        if put_refusal(STDERR_FILENO, written.number, written.place) {
             report(written.number);
         }
         return;

@@ -9,8 +9,8 @@ use Rattle.ground.proofs.Tests.{cond-has}
 use Rattle.state.specs.declared.registers.Auto.{Auto}
 use Rattle.state.specs.declared.registers.Combination.{Combination}
 use Rattle.state.specs.declared.registers.DisplayBits.{DisplayBits}
-use Rattle.codes.specs.declared.command.Target.{Target}
-use Rattle.codes.specs.declared.command.Move.{Move}
+use Rattle.state.specs.declared.registers.Target.{Target}
+use Rattle.state.specs.declared.registers.Move.{Move}
 use Rattle.codes.specs.Types.{Set, Mode, DisplayMode, Height, Run, Store, Load, Peek, Copy, Bit, Decoded, Defined, Undefined}
 use Rattle.codes.specs.Command.{heightOf, groupOf, decodeOf}
 

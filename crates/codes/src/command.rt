@@ -4,24 +4,8 @@ ghost use Rattle.codes.specs.Command.{neededOf, endsAuto, isOff};
 use state::registers::Auto;
 use state::registers::Combination;
 use state::registers::DisplayBits;
-
-// What the two data of a command set.
-pub enum Target {
-    Cursor,
-    Offset,
-    Pointer,
-    TextHome,
-    TextArea,
-    GraphicHome,
-    GraphicArea,
-}
-
-// How the pointer moves after a store or a load.
-pub enum Move {
-    Up,
-    Down,
-    Stay,
-}
+use state::registers::Move;
+use state::registers::Target;
 
 pub enum Command {
     Set(Target),

@@ -3,11 +3,11 @@ ghost use mathlib.Core.Path.{_≡_};
 ghost use Rattle.codes.specs.Command.{registerOf, controlOf, modeOf, displayModeOf, heightOf, autoCodeOf, transferOf, sightCodeOf, bitCodeOf, decodeOf};
 ghost use Rattle.codes.specs.Numbers.{codeNumber, decodedNumber};
 use super::command::Command;
-use super::command::Move;
-use super::command::Target;
 use state::registers::Auto;
 use state::registers::Combination;
 use state::registers::DisplayBits;
+use state::registers::Move;
+use state::registers::Target;
 
 // A code is a command, or undefined.
 pub enum Decoded {

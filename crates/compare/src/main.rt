@@ -10,9 +10,12 @@ use libc::STDOUT_FILENO;
 use printed::fill::character_rom;
 use printed::fill::empty_memory;
 use printed::input::byte_in;
+use printed::input::number_in;
 use printed::input::panel_in;
 use printed::input::rest_in;
-use report::read_exact;
+use printed::input::start_in;
+use report::put_field;
+use report::read_rom;
 use report::read_whole;
 use report::report;
 
@@ -23,10 +26,6 @@ const LIMIT: usize = 16384;
 struct Shown {
     whole: bool,
     number: u8,
-}
-
-fn put_field(word: &[u8], n: usize) -> bool {
-    io::write_all(STDOUT_FILENO, word) & io::print_decimal(STDOUT_FILENO, n as u64)
 }
 
 fn hex_digit(low: u8) -> u8
@@ -94,11 +93,6 @@ fn put_register(register: usize, one: usize, two: usize) -> bool {
     named & first & second & io::write_all(STDOUT_FILENO, b"\n")
 }
 
-// A number of the list, 0 past its end.
-fn number_in(list: &[usize], at: usize) -> usize {
-    if at < list.len() { list[at] } else { 0 }
-}
-
 // So many entries, those of memory first.
 fn put_entries(list: &[usize], memory: usize, entries: usize) -> bool {
     let mut whole = true;
@@ -133,19 +127,13 @@ fn put_compared(compared: Compared, list: &[usize]) -> bool {
     line & put & dots & io::write_all(STDOUT_FILENO, b"\n")
 }
 
-// The start of what is there, as far as it counts.
-fn cut(bytes: &[u8], most: usize) -> &[u8] {
-    let end = lesser(most, bytes.len());
-    &bytes[..end]
-}
-
 // Behind the panel two bytes, low byte first, say how long log one is; log two is the rest.
 fn show(rom: &[u8], input: &[u8]) -> Shown {
     let panel = panel_in(input, os::arg_count() > 2);
     let length = word(byte_in(input, 3), byte_in(input, 4)) as usize;
     let logs = rest_in(input, 5);
-    let one = cut(logs, lesser(length, LIMIT));
-    let two = cut(rest_in(logs, length), LIMIT);
+    let one = start_in(logs, lesser(length, LIMIT));
+    let two = start_in(rest_in(logs, length), LIMIT);
     let mut first = empty_memory();
     let mut second = empty_memory();
     let mut list = [0usize; 196659];
@@ -157,18 +145,9 @@ fn show(rom: &[u8], input: &[u8]) -> Shown {
     }
 }
 
-// With an argument the ROM is the input's first part, which has to be whole.
-fn take_rom(rom: &mut [u8]) -> bool {
-    if os::arg_count() > 1 {
-        read_exact(STDIN_FILENO, rom)
-    } else {
-        true
-    }
-}
-
 fn main() {
     let mut rom = character_rom();
-    if !take_rom(&mut rom) {
+    if !read_rom(os::arg_count() > 1, &mut rom) {
         return;
     }
     let mut input = [0u8; 81924];

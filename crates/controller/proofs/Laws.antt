@@ -10,7 +10,7 @@ use borrow.Author.Tests.{ltb-true}
 use Rattle.ground.proofs.Stores.{stored-length}
 use Rattle.ground.proofs.Tests.{cond-has, both, both-left, both-right}
 use Rattle.codes.specs.Command.{neededOf, isOff, endsAuto, decodeOf}
-use Rattle.codes.specs.declared.command.Target.the-variants as target
+use Rattle.state.specs.declared.registers.Target.the-variants as target
 use Rattle.codes.proofs.Heights.{Sound, height, decode-sound}
 use Rattle.state.specs.State.{validDisplay, validBus, validRegisters, none}
 use Rattle.state.specs.Combination.{isAttribute}

@@ -11,7 +11,7 @@ use Rattle.ground.specs.Lists.{stored}
 use Rattle.state.specs.State.{none}
 use Rattle.codes.specs.Command.{decodeOf}
 use Rattle.controller.specs.Types.{Panel, DisplayBits, Combination, Display, Off, Write, Target, Set, Mode, DisplayMode, Height, Bit, Defined}
-use Rattle.codes.specs.declared.command.Target.the-variants as target
+use Rattle.state.specs.declared.registers.Target.the-variants as target
 use Rattle.effects.specs.Effect.{withMode, withDisplayBits, withCursor, setOf}
 use Rattle.controller.specs.Access.{Pair, datum, code, Step, done, refused, commandOf, stepOf}
 use Rattle.effects.specs.Machine.{Machine, machine}

@@ -12,7 +12,7 @@ use Rattle.ground.proofs.Tests.{cond-has, either}
 use Rattle.codes.specs.Command.{neededOf, isOff, endsAuto, decodeOf}
 use Rattle.controller.specs.Types.{Panel, Registers, Auto, Off, Write, Read, Command, Decoded, Defined, Undefined, Acted, Turned}
 use Rattle.effects.specs.Effect.{statusOf}
-use Rattle.controller.specs.Access.{Step, done, answered, refused, obeyOf, commandOf, dataWriteOf, dataReadOf, tickOf, stepOf, replied, actedOf, accessOf}
+use Rattle.controller.specs.Access.{Step, done, answered, refused, Accessed, obeyOf, commandOf, dataWriteOf, dataReadOf, tickOf, stepOf, replied, actedOf, accessOf}
 use Rattle.effects.specs.Machine.{Machine, machine}
 use Rattle.controller.specs.Run.{went, halted, turnOf}
 use Rattle.controller.specs.Ready.{Runs, standing, turnedAll, turnedOf, takenOf, AnsweredAll, answeredAll, answeredOf, turnedBy}
@@ -93,6 +93,14 @@ module _ (p : Panel) (rom : List ℕ) (s : Machine) where
       go : (t : Bool) → (eqb k 2 || eqb k 3) ≡ t → (3 ≤ n) × (n ≤ 7)
       go true h = by-answering _ (step-answering k b h) e
       go false h = by-acting _ (step-acting k b h) e
+
+-- the code's turn, by its access
+module _ (r : Registers) (answers : List ℕ) (given : ℕ) {a : Acted} {m : List ℕ} {o : Accessed} (e : replied a m ≡ o) {t : Bool} {x : Turned} where
+  pub turned-reads : t ≡ true → {b : List ℕ} → answeredAll x b ≡ answeredOf a r answers given → turnedAll x m b ≡ turnedBy t o r answers given
+  turned-reads h f = (λ i. turnedAll (f i .turned) m (f i .answers)) ∙ (λ i. turnedBy (sym h i) (e i) r answers given)
+
+  pub turned-acts : t ≡ false → x ≡ takenOf a r given → turnedAll x m answers ≡ turnedBy t o r answers given
+  turned-acts h f = (λ i. turnedAll (f i) m answers) ∙ (λ i. turnedBy (sym h i) (e i) r answers given)
 
 -- what the code's turn comes to
 module _ (r : Registers) (m answers₀ : List ℕ) (given : ℕ) {a : Acted} {m′ : List ℕ} where

@@ -1,20 +1,19 @@
 -- What inner routines rest on, tested once at the door, and what they give.
 use mathlib.Core.Path.{_≡_}
-use mathlib.Core.Bool.{Bool, true, false, cond, not, _&&_}
-use mathlib.Core.List.{List, [], _∷_}
-use Prim.Native.Nat.{ℕ, _+_, _-_, _*_, _/_, _<_, _≤_}
-use lib.Dec.{ltb, eqb}
-use lib.ListN.{length, take, drop, set}
-use lib.Seq.{sets}
-use Rattle.ground.specs.Lists.{stored}
+use mathlib.Core.Bool.{Bool, true, cond}
+use mathlib.Core.List.{List}
+use Prim.Native.Nat.{ℕ, _*_, _≤_}
+use lib.ListN.{length}
 use Rattle.state.specs.State.{validPanel, validRegisters}
 use Rattle.display.specs.Frame.{lentLengths}
-use Rattle.controller.specs.Types.{Panel, Registers, Acted, Turned, Noted}
-use Rattle.controller.specs.Access.{Pair}
+use Rattle.controller.specs.Types.{Panel, Registers, Turned, Brought}
+use Rattle.controller.specs.Access.{Accessed, stepOf}
 use Rattle.effects.specs.Machine.{Machine, machine}
-use Rattle.controller.specs.Run.{pairsOf, Standing, Turn, went, halted}
-use Rattle.controller.specs.Skip.{Skipping}
-pub use Rattle.turns.specs.Turned.{TurnedAll, turnedAll, takenOf, AnsweredAll, answeredAll, answeredOf, turnedBy}
+use Rattle.controller.specs.Run.{Standing, Turn, went, halted, runFrom}
+use Rattle.controller.specs.Skip.{Skipping, skipStep}
+pub use Rattle.turns.specs.Turned.{takenOf, AnsweredAll, answeredAll, answeredOf}
+pub use Rattle.turns.specs.Blocked.{pairsFrom, Blocked}
+unfoldable pub use Rattle.turns.specs.Blocked.{dataOf}
 pub use Rattle.turns.specs.Noted.{NotedAll, notedAll, notedOf}
 
 -- a run under way
@@ -31,6 +30,22 @@ abbrev pub standingOn : {M : Type 0} → Standing M → List ℕ → ℕ → ℕ
 standingOn s skips listed place =
     record { machine = record { machine = s .machine; skips = skips; listed = listed; place = place }; answers = s .answers; given = s .given }
 
+-- one pair of a run, the display memory and the answer buffer then
+pub record TurnedAll : Type 0 where
+  pub turned : Turned
+  pub memory : List ℕ
+  pub answers : List ℕ
+
+abbrev pub turnedAll : Turned → List ℕ → List ℕ → TurnedAll
+turnedAll turned memory answers = record { turned = turned; memory = memory; answers = answers }
+
+-- a read gives its answer into the buffer
+abbrev pub turnedBy : Bool → Accessed → Registers → List ℕ → ℕ → TurnedAll
+turnedBy reads o r answers given =
+    cond reads
+    (turnedAll (answeredOf (o .acted) r answers given .turned) (o .memory) (answeredOf (o .acted) r answers given .answers))
+    (turnedAll (takenOf (o .acted) r given) (o .memory) answers)
+
 -- where the pair is refused all is as it was
 abbrev pub turnedOf : Standing Machine → Turn Machine → TurnedAll
 turnedOf s (went t) =
@@ -38,18 +53,14 @@ turnedOf s (went t) =
 turnedOf s (halted n) =
     turnedAll (record { number = n; registers = s .machine .registers; given = s .given }) (s .machine .memory) (s .answers)
 
--- the pairs of a log from one place up to another
-abbrev pub pairsFrom : List ℕ → ℕ → ℕ → List Pair
-pairsFrom log from total = take (total - from) (drop from (pairsOf log))
-
--- the bytes of the data that some pairs begin with
-unfoldable pub dataOf : List Pair → List ℕ
-dataOf [] = []
-dataOf (q ∷ qs) = cond (eqb (q .kind) 0) (q .byte ∷ dataOf qs) []
-
--- a block of data stored from the pointer on, and the place of the first pair behind it
-pub record Blocked (mem : List ℕ) (start : ℕ) (log : List ℕ) (from total : ℕ) (after : List ℕ) (end : ℕ) : Type 0 where
-  pub low : start < 65536
-  pub inside : end ≤ total
-  pub holds : after ≡ stored mem start (dataOf (pairsFrom log from total))
-  pub reaches : end ≡ from + length (dataOf (pairsFrom log from total))
+-- some pairs of a run, done one by one: behind them the rest comes to what it came to before them, whatever the panel, the ROM, the list
+-- of skipped pairs and the run
+pub record Brings (log : List ℕ) (total : ℕ) (r : Registers) (mem answers : List ℕ) (given from : ℕ) (b : Brought) (after room : List ℕ) : Type 0 where
+  pub reaches : from ≤ b .at
+  pub inside : b .at ≤ total
+  pub state : validRegisters (b .registers) ≡ true
+  pub memory : length after ≡ 65536
+  pub long : length room ≡ length answers
+  pub left : (p : Panel) (on : Bool) (rom skips : List ℕ) (listed : ℕ) → 2 * listed ≤ length skips
+      → runFrom (skipStep on (stepOf p rom)) (b .at) (pairsFrom log (b .at) total) (standingOn (standing (b .registers) after room (b .given)) skips listed (b .at))
+      ≡ runFrom (skipStep on (stepOf p rom)) from (pairsFrom log from total) (standingOn (standing r mem answers given) skips listed from)

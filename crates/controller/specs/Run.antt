@@ -9,16 +9,7 @@ use Rattle.state.specs.State.{validPanel, validRegisters}
 use Rattle.display.specs.Frame.{lentLengths}
 use Rattle.controller.specs.Access.{Pair, Step, done, answered, refused, stepOf}
 use Rattle.effects.specs.Machine.{Machine, machine}
-
--- the pairs of a log, and the log of some pairs
-unfoldable pub pairsOf : List ℕ → List Pair
-pairsOf [] = []
-pairsOf (k ∷ []) = []
-pairsOf (k ∷ (b ∷ log)) = record { kind = k; byte = b } ∷ pairsOf log
-
-unfoldable pub logOf : List Pair → List ℕ
-logOf [] = []
-logOf (q ∷ qs) = q .kind ∷ q .byte ∷ logOf qs
+unfoldable pub use Rattle.turns.specs.Pairs.{pairsOf, logOf}
 
 -- a run under way: the machine, the lent answer buffer, the answers in it
 pub record Standing (M : Type 0) : Type 0 where

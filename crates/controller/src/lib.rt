@@ -1,2 +1,4 @@
 // The run of a log.
+mod pairs;
 pub mod run;
+mod turn;

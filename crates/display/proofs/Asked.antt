@@ -1,19 +1,19 @@
 -- The layers asked for: what each test at the door answers, and what is had past them.
-use mathlib.Core.Path.{_≡_, refl, ap, sym, _∙_}
-use mathlib.Core.List.{List, [], _∷_}
+use mathlib.Core.Path.{_≡_, ap, sym, _∙_}
+use mathlib.Core.List.{List}
 use mathlib.Core.Bool.{Bool, true, false, cond, _&&_}
 use Prim.Native.Nat.{ℕ, _+_, _≤_}
 use native.Mathlib.Omega.{arith}
 use lib.Dec.{eqb}
-use lib.ListN.{length, getD}
+use lib.ListN.{length}
 use borrow.Author.Tests.{eqb-true, eq-eqb}
 use Rattle.ground.specs.Lists.{build}
 use Rattle.ground.proofs.Tests.{both, both-left, both-right, settled}
 use Rattle.state.specs.State.{validPanel, validDisplay}
-use Rattle.display.specs.Types.{Panel, Display, Reply, Seen}
+use Rattle.display.specs.Types.{Panel, Display, Reply}
 use Rattle.display.specs.Frame.{lentLengths, replyOf}
 use Rattle.display.specs.Drawable.{Drawable}
-use Rattle.display.specs.Layers.{layersAt, dark, seenOf, layersOf, Stretch, stretch, layersFrom, alike, rowLayersOf}
+use Rattle.display.specs.Layers.{layersAt, Stretch, stretch, layersFrom, alike, rowLayersOf}
 use Rattle.display.proofs.Doors.{drawable, turned-away}
 
 module _ (p : Panel) (d : Display) (mem rom : List ℕ) (r c : ℕ) (text graphic shown : List ℕ) {a b : Bool} (i : a ≡ validPanel p) (j : b ≡ validDisplay d) where
@@ -94,45 +94,7 @@ row-layers-are p d mem rom r c text graphic shown i j l m n =
     (stretch (replyOf 2) text graphic shown))
     (stretch (replyOf 1) text graphic shown)
 
--- three lists of one cell, as one
-abbrev seenIn : Stretch → Seen
-seenIn x =
-    record { number = x .reply .number; place = x .reply .place; text = getD (x .text) 0 0; graphic = getD (x .graphic) 0 0; shown = getD (x .shown) 0 0 }
-
-abbrev one : List ℕ
-one = 0 ∷ []
-
-module _ (p : Panel) (d : Display) (mem rom : List ℕ) (r c : ℕ) where
-  of-one : seenIn (rowLayersOf p d mem rom r c one one one) ≡ layersOf p d mem rom r c
-  unfolding rowLayersOf layersOf build
-  of-one = go (validPanel p && validDisplay d) (lentLengths mem rom)
-    where
-      here : c + 0 ≡ c
-      here = omega arith
-
-      go : (v f : Bool)
-          → seenIn (cond v (cond (f && alike one one one) (layersFrom p d mem rom r c 1) (stretch (replyOf 2) one one one)) (stretch (replyOf 1) one one one))
-          ≡ cond v (cond f (seenOf 0 (layersAt p d mem rom r c)) (seenOf 2 dark)) (seenOf 1 dark)
-      go true true = ap (λ (n : ℕ). seenOf 0 (layersAt p d mem rom r n)) here
-      go true false = refl
-      go false true = refl
-      go false false = refl
-
-  pub layers-asked : {reply : Reply} {text graphic shown : List ℕ}
-      → stretch reply text graphic shown ≡ rowLayersOf p d mem rom r c one one one → seenIn (stretch reply text graphic shown) ≡ layersOf p d mem rom r c
-  layers-asked h = ap seenIn h ∙ of-one
-
-  -- past the tests it is the three
-  pub layers-are : validPanel p ≡ true → validDisplay d ≡ true → lentLengths mem rom ≡ true
-      → layersOf p d mem rom r c ≡ seenOf 0 (layersAt p d mem rom r c)
-  unfolding layersOf
-  layers-are i j l = λ k. cond (i k && j k) (cond (l k) (seenOf 0 (layersAt p d mem rom r c)) (seenOf 2 dark)) (seenOf 1 dark)
-
 -- two replies that meet a promise are equal
-pub layers-settled : {x y : Seen} (p : Panel) (d : Display) (mem rom : List ℕ) (r c : ℕ)
-    → x ≡ layersOf p d mem rom r c → y ≡ layersOf p d mem rom r c → x ≡ y
-layers-settled p d mem rom r c h k = settled h k
-
 pub row-layers-settled : {x y : Reply} {t g s u v w : List ℕ} (p : Panel) (d : Display) (mem rom : List ℕ) (r c : ℕ) (text graphic shown : List ℕ)
     → stretch x t g s ≡ rowLayersOf p d mem rom r c text graphic shown → stretch y u v w ≡ rowLayersOf p d mem rom r c text graphic shown
     → stretch x t g s ≡ stretch y u v w

@@ -21,7 +21,8 @@ use Rattle.ground.proofs.Packs.{packed-by-rule}
 use Rattle.ground.proofs.Tests.{both-right}
 use Rattle.display.specs.Types.{Panel, Display, Combination, Or, Exor, And, Attribute, Manner, Normal, Reverse, Inhibit}
 use Rattle.display.proofs.Bounds.{glyph-lt}
-use Rattle.display.proofs.Cases.{graphic-on, graphic-off, text-off, text-plain, text-attributed, cell-shown, cell-cursor}
+use Rattle.display.proofs.Cases.{graphic-on, graphic-off, text-off, text-plain, text-attributed, shown, cell-shown, cell-cursor}
+use Rattle.display.specs.Drawable.{GraphicOver}
 use Rattle.state.specs.Halves.{cursorY}
 use Rattle.display.specs.Displayed.{addressOf, attributeByte, mixed, glyphDots, textDots, graphicDots, displayedByte, cursorLit, cursorCovers, cellByte}
 use Rattle.state.specs.Attribute.{lookOf, shownAs, attributed, shadesOf}
@@ -253,6 +254,13 @@ alone true true And x e h = absurd (true≢false e)
 alone true true Attribute x e h = refl
 alone true false k x e h = refl
 alone false g k x e h = sym (h refl)
+
+-- the graphic mixed with what stands in a list of cells, and what comes of it over the text's dots
+abbrev pub mixedOver : Panel → Display → List ℕ → ℕ → ℕ → List ℕ → ℕ → ℕ
+mixedOver p d mem r first cells n = mixed (d .bits .text) (d .bits .graphic) (d .combination) (getD cells n 0) (graphicDots p d mem r (first + n))
+
+pub over-text : (p : Panel) (d : Display) (mem : List ℕ) (r first : ℕ) {l after : List ℕ} → after ≡ build (length l) (mixedOver p d mem r first l) → GraphicOver p d mem r first l after
+over-text p d mem r first {l} e = λ rom h. e ∙ build-cong (length l) _ _ (λ n k. shown p d mem rom r (first + n) (of-rule _ h k) refl refl)
 
 pub text-alone : (p : Panel) (d : Display) (mem rom : List ℕ) (r first : ℕ) {b : Bool} {l : List ℕ} → b ≡ (d .bits .graphic && not (isAttribute (d .combination)))
     → b ≡ false → l ≡ build (length l) (λ j. textDots p d mem rom r (first + j))

@@ -8,7 +8,7 @@ use lib.ListN.{length, getD}
 use Rattle.ground.specs.Lists.{build}
 use Rattle.state.specs.State.{validPanel, validDisplay}
 use Rattle.state.specs.Combination.{isAttribute}
-use Rattle.display.specs.Types.{Panel, Display, Reply, Seen}
+use Rattle.display.specs.Types.{Panel, Display, Reply}
 use Rattle.display.specs.Displayed.{textCode, graphicByte, attributeByte, textDots, graphicDots, displayedByte}
 use Rattle.display.specs.Frame.{lentLengths, replyOf}
 
@@ -22,21 +22,6 @@ pub record Layers : Type 0 where
 abbrev pub layersAt : Panel → Display → List ℕ → List ℕ → ℕ → ℕ → Layers
 layersAt p d mem rom r c =
     record { text = textDots p d mem rom r c; graphic = graphicDots p d mem r c; shown = displayedByte p d mem rom r c }
-
--- no dots
-abbrev pub dark : Layers
-dark = record { text = 0; graphic = 0; shown = 0 }
-
--- a number with place 0, and the layers
-abbrev pub seenOf : ℕ → Layers → Seen
-seenOf n l = record { number = n; place = 0; text = l .text; graphic = l .graphic; shown = l .shown }
-
--- the layers of a cell, asked for: 1, 2, or the three
-unfoldable pub layersOf : Panel → Display → List ℕ → List ℕ → ℕ → ℕ → Seen
-layersOf p d mem rom r c =
-    cond (validPanel p && validDisplay d)
-    (cond (lentLengths mem rom) (seenOf 0 (layersAt p d mem rom r c)) (seenOf 2 dark))
-    (seenOf 1 dark)
 
 -- a reply, and three lists then
 pub record Stretch : Type 0 where

@@ -15,4 +15,3 @@ pub use Rattle.state.specs.declared.attribute.Manner.{Manner}
 pub use Rattle.state.specs.declared.attribute.Manner.the-variants.{Normal, Reverse, Inhibit}
 pub use Rattle.state.specs.declared.attribute.Look.{Look}
 pub use Rattle.state.specs.declared.reply.Reply.{Reply}
-pub use Rattle.display.specs.declared.seen.Seen.{Seen}

@@ -8,10 +8,10 @@ ghost use lib.ListN.{length, getD};
 ghost use Rattle.ground.specs.Lists.{build};
 ghost use Rattle.state.specs.Attribute.{attributed, shadesOf};
 ghost use Rattle.state.specs.Combination.{isAttribute};
-ghost use Rattle.display.specs.Displayed.{attributeByte, glyphDots, textDots, graphicDots, displayedByte};
+ghost use Rattle.display.specs.Displayed.{attributeByte, glyphDots, textDots, graphicDots};
 ghost use Rattle.display.specs.Layers.{layersAt};
 ghost use Rattle.display.specs.Shaded.{Shaded};
-ghost use Rattle.display.specs.Drawable.{Drawable};
+ghost use Rattle.display.specs.Drawable.{Drawable, GraphicOver};
 use super::cell::address;
 use super::cell::byte_at;
 use super::cell::glyph;
@@ -165,14 +165,12 @@ fn lay_graphic(
     panel: Panel,
     display: Display,
     mem: &[u8],
-    rom: &[u8],
     row: usize,
     column: usize,
     cells: &mut [u8],
 )
-    requires { ⌜ Drawable panel display (now mem) (now rom) ⌝ }
-    requires { ⌜ now cells ≡ build (length (now cells)) (λ j. textDots panel display (now mem) (now rom) row (column + j)) ⌝ }
-    ensures { λ _. ⌜ now (cells .exit) ≡ build (length (now (cells .entry))) (λ j. displayedByte panel display (now (mem .entry)) (now (rom .entry)) row (column + j)) ⌝ }
+    requires { ⌜ length (now mem) ≡ 65536 ⌝ }
+    ensures { λ _. ⌜ GraphicOver panel display (now (mem .entry)) row column (now (cells .entry)) (now (cells .exit)) ⌝ }
 {
     if has_dots(display) {
         let combination = display.combination;
@@ -216,5 +214,5 @@ pub(crate) fn lay(
     lay_text(panel, display, mem, rom, shades, row, column, shown);
     give_text(shown, text);
     give_graphic(panel, display, mem, row, column, graphic);
-    lay_graphic(panel, display, mem, rom, row, column, shown);
+    lay_graphic(panel, display, mem, row, column, shown);
 }

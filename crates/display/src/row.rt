@@ -1,11 +1,11 @@
 // One dot row: its layers laid, the cursor over what comes of them, then packed into the row's own stretch.
 ghost use mathlib.Core.Path.{_≡_};
+ghost use mathlib.Core.Logic.{_⊎_};
+ghost use Prim.Native.Nat.{_≤_};
 ghost use lib.ListN.{length};
-ghost use Rattle.ground.specs.Lists.{build};
 ghost use Rattle.ground.specs.Packing.{rowBytes};
-ghost use Rattle.display.specs.Displayed.{displayedByte, cellByte};
 ghost use Rattle.display.specs.Frame.{rowOf};
-ghost use Rattle.display.specs.Drawable.{Drawable};
+ghost use Rattle.display.specs.Drawable.{Drawable, CursorOver};
 ghost use Rattle.display.specs.Shaded.{Shaded};
 use super::cell::cursor_covers;
 use super::cell::cursor_lit;
@@ -16,10 +16,10 @@ use state::panel::Panel;
 use state::registers::Display;
 
 // The cursor laid over its cell.
-fn lay_cursor(panel: Panel, display: Display, mem: &[u8], rom: &[u8], row: usize, cells: &mut [u8])
-    requires { ⌜ Drawable panel display (now mem) (now rom) ⌝ }
-    requires { ⌜ now cells ≡ build (panel .columns) (displayedByte panel display (now mem) (now rom) row) ⌝ }
-    ensures { λ _. ⌜ now (cells .exit) ≡ build (panel .columns) (cellByte panel display (now (mem .entry)) (now (rom .entry)) row) ⌝ }
+fn lay_cursor(panel: Panel, display: Display, row: usize, cells: &mut [u8])
+    requires { ⌜ (panel .lines ≤ 32) × (display .cursor .height ≤ 8) ⌝ }
+    requires { ⌜ ((panel .width ≡ 6) ⊎ (panel .width ≡ 8)) × (length (now cells) ≡ panel .columns) ⌝ }
+    ensures { λ _. ⌜ CursorOver panel display row (now (cells .entry)) (now (cells .exit)) ⌝ }
 {
     let lit = cursor_lit(display.bits.cursor, display.bits.blink, display.phase);
     let x = display.cursor.x as usize;
@@ -60,6 +60,6 @@ pub(crate) fn paint_row(
         &mut graphic,
         cells,
     );
-    lay_cursor(panel, display, mem, rom, row, cells);
+    lay_cursor(panel, display, row, cells);
     pack(panel.width, cells, out);
 }

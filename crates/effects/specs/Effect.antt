@@ -5,7 +5,7 @@ use lib.Dec.{ltb}
 use lib.Bits.{bitOr}
 use Rattle.ground.specs.Bytes.{wordOf}
 use Rattle.effects.specs.Types.{Plane, Cursor, DisplayBits, Combination, Display, Auto, Off, Write, Read, Pending, Bus, Registers, Move, Up, Down, Stay, Target}
-use Rattle.codes.specs.declared.command.Target.the-variants as target
+use Rattle.state.specs.declared.registers.Target.the-variants as target
 
 abbrev pub withDisplay : Registers → Display → Registers
 withDisplay r d = record { display = d; bus = r .bus }

@@ -10,6 +10,6 @@ pub use Rattle.state.specs.declared.registers.Auto.the-variants.{Off, Write, Re
 pub use Rattle.state.specs.declared.registers.Pending.{Pending}
 pub use Rattle.state.specs.declared.registers.Bus.{Bus}
 pub use Rattle.state.specs.declared.registers.Registers.{Registers}
-pub use Rattle.codes.specs.declared.command.Target.{Target}
-pub use Rattle.codes.specs.declared.command.Move.{Move}
-pub use Rattle.codes.specs.declared.command.Move.the-variants.{Up, Down, Stay}
+pub use Rattle.state.specs.declared.registers.Target.{Target}
+pub use Rattle.state.specs.declared.registers.Move.{Move}
+pub use Rattle.state.specs.declared.registers.Move.the-variants.{Up, Down, Stay}

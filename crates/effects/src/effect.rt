@@ -4,16 +4,16 @@ ghost use mathlib.Core.Bool.{cond};
 ghost use lib.Dec.{ltb};
 ghost use Prim.Native.Nat.{_+_, _%_};
 ghost use Rattle.effects.specs.Effect.{withMode, withAuto, pushed, movedOf, setOf, isWrite, isRead, autoBits, busStatus, statusOf};
-use codes::command::Move;
-use codes::command::Target;
 use ground::bytes::word;
 use state::registers::Auto;
 use state::registers::Bus;
 use state::registers::Combination;
 use state::registers::Cursor;
 use state::registers::Display;
+use state::registers::Move;
 use state::registers::Pending;
 use state::registers::Registers;
+use state::registers::Target;
 
 pub fn with_mode(display: Display, external: bool, combination: Combination) -> Display
     ensures { λ r. ⌜ r ≡ withMode display external combination ⌝ }

@@ -4,9 +4,9 @@ ghost use lib.ListN.{getD, set};
 ghost use Rattle.ground.specs.Bytes.{withBit};
 ghost use Rattle.effects.specs.Effect.{withPointer, withLatch, movedOf};
 use crate::effect::moved;
-use codes::command::Move;
 use ground::bytes::with_bit;
 use state::registers::Bus;
+use state::registers::Move;
 
 // The byte at an address; 0 behind the memory's end. All 65,536 are there in a run, and the compiler then drops the test.
 fn byte_there(mem: &[u8], address: u16) -> u8

@@ -8,4 +8,4 @@ pub use Rattle.state.specs.declared.registers.Combination.the-variants.{Or, Exo
 pub use Rattle.state.specs.declared.registers.Display.{Display}
 pub use Rattle.state.specs.declared.registers.Registers.{Registers}
 pub use Rattle.state.specs.declared.reply.Reply.{Reply}
-pub use Rattle.single.specs.declared.access.Acted.{Acted}
+pub use Rattle.state.specs.declared.reply.Acted.{Acted}

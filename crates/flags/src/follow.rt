@@ -6,9 +6,9 @@ ghost use Rattle.flags.specs.Flags.{allSet, withFlags, flagStep};
 ghost use Rattle.flags.specs.Follow.{followed, followedOf, followOf};
 ghost use Rattle.flags.specs.Ready.{Following};
 use crate::same::same;
-use single::access::Acted;
 use state::panel::Panel;
 use state::registers::Registers;
+use state::reply::Acted;
 use stores::stores::stores;
 use touch::touch::mark;
 

@@ -3,7 +3,6 @@
 // controller starts from reset. Started with an argument it takes the character ROM before them, with two the panel is in two halves.
 ghost use mathlib.Core.Path.{_≡_};
 ghost use lib.ListN.{length};
-use ground::bytes::lesser;
 use ground::bytes::word;
 use inspection::inspect::Inspected;
 use inspection::inspect::inspect;
@@ -15,15 +14,14 @@ use printed::fill::empty_memory;
 use printed::input::byte_in;
 use printed::input::panel_in;
 use printed::input::rest_in;
-use report::read_exact;
+use printed::input::start_in;
+use report::put_field;
+use report::put_refusal;
+use report::read_rom;
 use report::read_whole;
 use report::report;
 use state::panel::Panel;
 use state::registers::Registers;
-
-fn put_field(word: &[u8], n: usize) -> bool {
-    io::write_all(STDOUT_FILENO, word) & io::print_decimal(STDOUT_FILENO, n as u64)
-}
 
 fn put_named(word: &[u8], named: Named) -> bool {
     let put = match named {
@@ -37,9 +35,7 @@ fn put_named(word: &[u8], named: Named) -> bool {
 
 // Nothing is named on a refusal.
 fn put_inspected(seen: Inspected) -> bool {
-    let number = put_field(b"refusal ", seen.number as usize);
-    let place = put_field(b" place ", seen.place);
-    let line = number & place & io::write_all(STDOUT_FILENO, b"\n");
+    let line = put_refusal(STDOUT_FILENO, seen.number, seen.place);
     if seen.number != 0 {
         return line;
     }
@@ -62,36 +58,21 @@ fn empty_room() -> [u8; 3145734]
     [0; 3145734]
 }
 
-// The start of what is there.
-fn cut(bytes: &[u8], most: usize) -> &[u8] {
-    let end = lesser(most, bytes.len());
-    &bytes[..end]
-}
-
 // Behind the panel three bytes, low byte first, say how long the log is; the recorded answers are the rest.
 fn inspect_input(rom: &[u8], input: &[u8]) -> Inspected {
     let panel = panel_in(input, os::arg_count() > 2);
     let low = word(byte_in(input, 3), byte_in(input, 4)) as usize;
     let length = low + 65536 * (byte_in(input, 5) as usize);
     let rest = rest_in(input, 6);
-    let log = cut(rest, length);
+    let log = start_in(rest, length);
     let recorded = rest_in(rest, length);
     let mut memory = empty_memory();
     inspect(panel, Registers::reset(), &mut memory, rom, log, recorded)
 }
 
-// With an argument the ROM is the input's first part, which has to be whole.
-fn take_rom(rom: &mut [u8]) -> bool {
-    if os::arg_count() > 1 {
-        read_exact(STDIN_FILENO, rom)
-    } else {
-        true
-    }
-}
-
 fn main() {
     let mut rom = character_rom();
-    if !take_rom(&mut rom) {
+    if !read_rom(os::arg_count() > 1, &mut rom) {
         return;
     }
     let mut input = empty_room();

@@ -3,7 +3,7 @@ pub use Rattle.state.specs.declared.panel.Panel.{Panel}
 pub use Rattle.state.specs.declared.registers.Auto.{Auto}
 pub use Rattle.state.specs.declared.registers.Auto.the-variants.{Off, Write, Read}
 pub use Rattle.state.specs.declared.registers.Registers.{Registers}
-pub use Rattle.single.specs.declared.access.Acted.{Acted}
+pub use Rattle.state.specs.declared.reply.Acted.{Acted}
 pub use Rattle.inspection.specs.declared.look.Named.{Named}
 pub use Rattle.inspection.specs.declared.look.Named.the-variants.{At, Nothing}
 pub use Rattle.inspection.specs.declared.look.Looked.{Looked}

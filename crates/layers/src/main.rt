@@ -8,12 +8,13 @@ use ground::bytes::lesser;
 use ground::cells::pack;
 use libc::STDIN_FILENO;
 use libc::STDOUT_FILENO;
+use output::write_line;
 use printed::fill::character_rom;
 use printed::fill::empty_memory;
 use printed::input::byte_in;
 use printed::input::panel_in;
 use printed::input::rest_in;
-use report::read_exact;
+use report::read_rom;
 use report::read_whole;
 use report::report;
 use state::panel::Panel;
@@ -27,10 +28,6 @@ const WHOLE: usize = 255;
 struct Shown {
     whole: bool,
     number: u8,
-}
-
-fn put_field(word: &[u8], n: usize) -> bool {
-    io::write_all(STDOUT_FILENO, word) & io::print_decimal(STDOUT_FILENO, n as u64)
 }
 
 // The dots of at most eighty cells.
@@ -191,11 +188,7 @@ fn show(rom: &[u8], input: &[u8]) -> Shown {
         log.len() / 2,
         &mut answers,
     );
-    let taken = put_field(b"pairs ", ran.taken);
-    let given = put_field(b" answers ", ran.answers);
-    let number = put_field(b" refusal ", ran.number as usize);
-    let place = put_field(b" place ", ran.place);
-    let line = taken & given & number & place & io::write_all(STDOUT_FILENO, b"\n");
+    let line = write_line(STDOUT_FILENO, ran.taken, ran.answers, ran.number, ran.place);
     if (ran.number == 1) | (ran.number == 8) {
         return Shown {
             whole: line,
@@ -211,18 +204,9 @@ fn show(rom: &[u8], input: &[u8]) -> Shown {
     }
 }
 
-// With an argument the ROM is the input's first part, which has to be whole.
-fn take_rom(rom: &mut [u8]) -> bool {
-    if os::arg_count() > 1 {
-        read_exact(STDIN_FILENO, rom)
-    } else {
-        true
-    }
-}
-
 fn main() {
     let mut rom = character_rom();
-    if !take_rom(&mut rom) {
+    if !read_rom(os::arg_count() > 1, &mut rom) {
         return;
     }
     let mut input = [0u8; 16389];

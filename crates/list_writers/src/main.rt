@@ -5,7 +5,9 @@ use ground::bytes::word;
 use libc::STDIN_FILENO;
 use libc::STDOUT_FILENO;
 use printed::fill::empty_memory;
+use printed::input::number_in;
 use printed::input::panel_in;
+use report::put_field;
 use report::read_exact;
 use report::read_whole;
 use report::report;
@@ -52,11 +54,6 @@ fn put_line(
 ) -> usize {
     let a = put_place(out, at, pair, address);
     put_bytes(out, a, before, after)
-}
-
-// A number of the list, 0 past its end.
-fn number_in(list: &[usize], at: usize) -> usize {
-    if at < list.len() { list[at] } else { 0 }
 }
 
 // The lines of some entries, from one on: at most 1,024.
@@ -192,10 +189,6 @@ fn list_all(
         number: 0,
         failed: true,
     }
-}
-
-fn put_field(word: &[u8], n: usize) -> bool {
-    io::write_all(STDOUT_FILENO, word) & io::print_decimal(STDOUT_FILENO, n as u64)
 }
 
 // The whole log's number: 8 where its length is odd, of which the whole pairs are the place.

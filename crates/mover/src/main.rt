@@ -8,6 +8,7 @@ use layout::moves::move_up;
 use libc::STDERR_FILENO;
 use libc::STDIN_FILENO;
 use libc::STDOUT_FILENO;
+use report::put_refusal;
 use report::read_whole;
 use report::report;
 use state::panel::Panel;
@@ -32,14 +33,6 @@ fn moved(dual: bool, input: &[u8], out: &mut [u8]) -> Moved {
     move_up(panel_in(input, dual), book, out)
 }
 
-fn put_refusal(number: u8, place: usize) -> bool {
-    let refusal = io::write_all(STDERR_FILENO, b"refusal ");
-    let which = io::print_decimal(STDERR_FILENO, number as u64);
-    let at = io::write_all(STDERR_FILENO, b" place ");
-    let where_it_is = io::print_decimal(STDERR_FILENO, place as u64);
-    refusal & which & at & where_it_is & io::write_all(STDERR_FILENO, b"\n")
-}
-
 // One byte past the limit shows that a book is too long; no moved book is longer than the output.
 fn main() {
     let mut input = [0u8; 32773];
@@ -52,7 +45,7 @@ fn main() {
     let dual = os::arg_count() > 1;
     let moved = moved(dual, &input[..end], &mut out);
     if moved.number != 0 {
-        if put_refusal(moved.number, moved.place) {
+        if put_refusal(STDERR_FILENO, moved.number, moved.place) {
             report(moved.number);
         }
         return;

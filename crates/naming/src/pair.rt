@@ -1,12 +1,12 @@
 // A pair in words, behind what stands in a lent room.
 use codes::command::Command;
-use codes::command::Move;
-use codes::command::Target;
 use codes::decode::Decoded;
 use codes::decode::decode;
 use state::registers::Auto;
 use state::registers::Combination;
+use state::registers::Move;
 use state::registers::Registers;
+use state::registers::Target;
 use words::bits::put_display;
 use words::put::put;
 use words::put::put_byte;

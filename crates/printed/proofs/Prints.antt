@@ -24,6 +24,14 @@ rest-is l head {s} i = take-all (length l - s) (drop s l) (rw length-drop (omega
     go (yes h) = drop-of-length-le l {i = s} (omega arith) ∙ sym (drop-of-length-le l {i = head} (omega arith))
     go (no h) = let a : s ≡ head = omega arith in ap (λ (n : ℕ). drop n l) a
 
+-- the input up to a place
+pub start-is : (l : List ℕ) (most : ℕ) {e : ℕ} → e ≡ min most (length l) → take e l ≡ take most l
+start-is l most {e} i = go (decLt (length l) most)
+  where
+    go : Dec (length l < most) → take e l ≡ take most l
+    go (yes h) = take-all e l (omega arith) ∙ sym (take-all most l (omega arith))
+    go (no h) = let a : e ≡ most = omega arith in ap (λ (n : ℕ). take n l) a
+
 -- the largest row, frame and frame text
 module _ (p : Panel) (q : Panelled p) where
   pub dots-few : p .columns * p .width ≤ 640

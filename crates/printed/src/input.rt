@@ -1,6 +1,6 @@
-// The panel, a byte and a book out of a program's input.
+// The panel, a byte and a book out of a program's input, and a number out of a list.
 ghost use mathlib.Core.Path.{_≡_};
-ghost use lib.ListN.{getD, drop};
+ghost use lib.ListN.{getD, take, drop};
 ghost use Rattle.printed.specs.Printed.{panelIn};
 use ground::bytes::lesser;
 use state::panel::Panel;
@@ -30,4 +30,19 @@ pub fn rest_in(input: &[u8], head: usize) -> &[u8]
 {
     let start = lesser(head, input.len());
     &input[start..]
+}
+
+// The input's first bytes, all of it where it ends before.
+pub fn start_in(input: &[u8], most: usize) -> &[u8]
+    ensures { λ r. ⌜ now r ≡ take most (now (input .entry)) ⌝ }
+{
+    let end = lesser(most, input.len());
+    &input[..end]
+}
+
+// A number of a list, 0 past its end.
+pub fn number_in(list: &[usize], at: usize) -> usize
+    ensures { λ r. ⌜ r ≡ getD (now (list .entry)) at 0 ⌝ }
+{
+    if at < list.len() { list[at] } else { 0 }
 }

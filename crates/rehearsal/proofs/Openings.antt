@@ -15,7 +15,7 @@ use Rattle.state.specs.declared.registers.Combination.the-variants.{Or}
 use Rattle.state.specs.declared.registers.Registers.{Registers}
 use Rattle.state.specs.State.{validPanel}
 use Rattle.display.proofs.Plain.{plain}
-use Rattle.codes.specs.declared.command.Target.the-variants as target
+use Rattle.state.specs.declared.registers.Target.the-variants as target
 use Rattle.controller.specs.Access.{Pair, stepOf}
 use Rattle.effects.specs.Machine.{Machine, machine}
 use Rattle.controller.proofs.Takes.{Takes, takes-both, resting, off-taken, word-taken, mode-taken, show-taken}

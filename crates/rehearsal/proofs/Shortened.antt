@@ -14,7 +14,7 @@ use Rattle.ground.specs.Lists.{stored}
 use Rattle.state.specs.declared.panel.Panel.{Panel}
 use Rattle.state.specs.declared.registers.Registers.{Registers}
 use Rattle.state.specs.State.{validPanel}
-use Rattle.codes.specs.declared.command.Target.the-variants as target
+use Rattle.state.specs.declared.registers.Target.the-variants as target
 use Rattle.controller.specs.Access.{Pair, stepOf}
 use Rattle.effects.specs.Machine.{Machine}
 use Rattle.controller.proofs.Takes.{Takes, takes-both, resting, word-taken, show-taken}

@@ -20,7 +20,7 @@ use Rattle.state.specs.State.{validPanel}
 use Rattle.state.specs.Combination.{isAttribute}
 use Rattle.display.proofs.Plain.{plain}
 use Rattle.codes.specs.Command.{decodeOf}
-use Rattle.codes.specs.declared.command.Target.the-variants as target
+use Rattle.state.specs.declared.registers.Target.the-variants as target
 use Rattle.codes.specs.declared.command.Command.the-variants.{Mode}
 use Rattle.codes.specs.declared.decode.Decoded.the-variants.{Defined}
 use Rattle.codes.proofs.Computed.{decode-height, decode-bit, decode-cursor}

@@ -16,7 +16,7 @@ use printed::input::rest_in;
 use printed::screen::print_rehearsal;
 use printed::told::Told;
 use rehearsal::rehearse::rehearse;
-use report::read_exact;
+use report::read_rom;
 use report::read_whole;
 use report::report;
 use state::panel::Panel;
@@ -83,19 +83,11 @@ fn rehearse_text(dual: bool, rom: &[u8], input: &[u8], out: &mut [u8]) -> Told
     )
 }
 
-// With an argument the ROM is the input's first part, which has to be whole.
-fn take_rom(rom: &mut [u8]) -> bool {
-    if os::arg_count() > 1 {
-        read_exact(STDIN_FILENO, rom)
-    } else {
-        true
-    }
-}
-
 // One byte past the limit shows that a book is too long.
 fn main() {
+    let words = os::arg_count();
     let mut rom = character_rom();
-    if !take_rom(&mut rom) {
+    if !read_rom(words > 1, &mut rom) {
         return;
     }
     let mut input = [0u8; 32774];
@@ -105,8 +97,7 @@ fn main() {
     }
     let end = got.count;
     let mut out = [0u8; 196608];
-    let dual = os::arg_count() > 2;
-    let told = rehearse_text(dual, &rom, &input[..end], &mut out);
+    let told = rehearse_text(words > 2, &rom, &input[..end], &mut out);
     let count = told.count;
     if io::write_all(STDOUT_FILENO, &out[..count]) {
         report(told.number);

@@ -8,6 +8,8 @@ use layout::saving::salvage;
 use libc::STDERR_FILENO;
 use libc::STDIN_FILENO;
 use libc::STDOUT_FILENO;
+use report::put_field_to;
+use report::put_refusal;
 use report::read_whole;
 use report::report;
 use state::panel::Panel;
@@ -27,23 +29,11 @@ fn book_in(input: &[u8]) -> &[u8] {
     &input[start..]
 }
 
-fn put(text: &[u8]) -> bool {
-    io::write_all(STDERR_FILENO, text)
-}
-
-// A word and a number behind it.
-fn put_field(word: &[u8], n: usize) -> bool {
-    put(word) & io::print_decimal(STDERR_FILENO, n as u64)
-}
-
-fn put_refusal(number: u8, place: usize) -> bool {
-    let number = put_field(b"refusal ", number as usize);
-    number & put_field(b" place ", place) & put(b"\n")
-}
-
 fn put_screen(key: u16, kept: usize, dropped: usize) -> bool {
-    let screen = put_field(b"screen ", key as usize) & put_field(b" kept ", kept);
-    screen & put_field(b" dropped ", dropped) & put(b"\n")
+    let screen = put_field_to(STDERR_FILENO, b"screen ", key as usize);
+    let first = put_field_to(STDERR_FILENO, b" kept ", kept);
+    let second = put_field_to(STDERR_FILENO, b" dropped ", dropped);
+    screen & first & second & io::write_all(STDERR_FILENO, b"\n")
 }
 
 // A line for each screen, by its number or identity.
@@ -68,7 +58,7 @@ fn main() {
     let mut out = [0u8; 32768];
     let salvaged = salvage(panel, book_in(&input[..end]), &mut out);
     if salvaged.number != 0 {
-        if put_refusal(salvaged.number, salvaged.place) {
+        if put_refusal(STDERR_FILENO, salvaged.number, salvaged.place) {
             report(salvaged.number);
         }
         return;

@@ -9,6 +9,8 @@ use contents::open::open;
 use ground::bytes::lesser;
 use libc::STDIN_FILENO;
 use libc::STDOUT_FILENO;
+use report::put_field;
+use report::put_refusal;
 use report::read_whole;
 use report::report;
 use state::panel::Panel;
@@ -16,11 +18,6 @@ use state::registers::Combination;
 
 fn put(text: &[u8]) -> bool {
     io::write_all(STDOUT_FILENO, text)
-}
-
-// A word and a number behind it.
-fn put_field(word: &[u8], n: usize) -> bool {
-    put(word) & io::print_decimal(STDOUT_FILENO, n as u64)
 }
 
 // Bytes of the book, as numbers. None stands behind byte 32,768.
@@ -117,11 +114,6 @@ fn put_screens(panel: Panel, book: &[u8], spans: Spans) -> bool {
     whole
 }
 
-fn put_refusal(number: u8, place: usize) -> bool {
-    let number = put_field(b"refusal ", number as usize);
-    number & put_field(b" place ", place) & put(b"\n")
-}
-
 // C, L, w; a missing byte is 0.
 fn panel_in(input: &[u8], dual: bool) -> Panel {
     Panel {
@@ -143,7 +135,7 @@ fn main() {
     let start = lesser(3, end);
     let panel = panel_in(&input, os::arg_count() > 1);
     if !panel.valid() {
-        if put_refusal(1, 0) {
+        if put_refusal(STDOUT_FILENO, 1, 0) {
             report(1);
         }
         return;
@@ -151,7 +143,7 @@ fn main() {
     let book = &input[start..end];
     let spans = open(book);
     if spans.number != 0 {
-        if put_refusal(spans.number, spans.place) {
+        if put_refusal(STDOUT_FILENO, spans.number, spans.place) {
             report(spans.number);
         }
         return;

@@ -12,12 +12,13 @@ use Rattle.state.specs.State.{validPanel, validDisplay, validBus, validRegister
 use Rattle.state.proofs.Valid.{panelled}
 use Rattle.display.specs.Displayed.{displayedByte}
 use Rattle.display.specs.Frame.{lentLengths}
-use Rattle.display.specs.Layers.{layersOf, Stretch, stretch, rowLayersOf}
-use Rattle.display.specs.declared.seen.Seen.{Seen}
-use Rattle.display.proofs.Asked.{layers-are, row-layers-are}
+use Rattle.display.specs.Layers.{Stretch, stretch, rowLayersOf}
+use Rattle.display.proofs.Asked.{row-layers-are}
 use Rattle.state.specs.declared.reply.Reply.{Reply}
 use Rattle.effects.specs.Machine.{Machine, machine}
-use Rattle.sight.specs.Types.{Panel, Display, Registers, Bus}
+use Rattle.sight.specs.Types.{Panel, Display, Registers, Bus, Seen}
+use Rattle.sight.specs.Seen.{layersOf}
+use Rattle.sight.proofs.Cells.{layers-are}
 use Rattle.sight.specs.Ready.{Seeing}
 use Rattle.sight.specs.Sight.{peekOf, copyOf, position, sighted, peekedOf, copiedAll}
 use Rattle.sight.proofs.Sights.{peeked-on, copied-on}

@@ -1,4 +1,5 @@
 pub mod Types
+pub mod Seen
 pub mod Position
 pub mod Sight
 pub mod Ready

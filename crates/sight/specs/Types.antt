@@ -9,8 +9,9 @@ pub use Rattle.sight.specs.declared.position.Position.the-variants.{At, 
 pub use Rattle.sight.specs.declared.line.Line.{Line}
 pub use Rattle.state.specs.declared.registers.Auto.{Auto}
 pub use Rattle.state.specs.declared.registers.Auto.the-variants.{Off, Write, Read}
-pub use Rattle.codes.specs.declared.command.Move.the-variants.{Up}
+pub use Rattle.state.specs.declared.registers.Move.the-variants.{Up}
 pub use Rattle.codes.specs.declared.command.Command.{Command}
 pub use Rattle.codes.specs.declared.command.Command.the-variants.{Set, Mode, DisplayMode, Height, Run, Store, Load, Peek, Copy, Bit}
 pub use Rattle.codes.specs.declared.decode.Decoded.{Decoded}
 pub use Rattle.codes.specs.declared.decode.Decoded.the-variants.{Defined, Undefined}
+pub use Rattle.sight.specs.declared.seen.Seen.{Seen}

@@ -6,7 +6,7 @@ ghost use Rattle.sight.specs.Ready.{Seeing};
 use crate::door::sees;
 use crate::position::Position;
 use crate::position::find;
-use display::seen::layers;
+use crate::seen::layers;
 use state::panel::Panel;
 use state::registers::Bus;
 use state::registers::Registers;

@@ -10,7 +10,6 @@ ghost use Rattle.single.specs.Access.{replied, actedOf, accessOf};
 ghost use Rattle.effects.specs.Effect.{withDisplay, withBus, withPhase, withPending, statusOf};
 ghost use Rattle.sight.specs.Ready.{Seeing};
 use codes::command::Command;
-use codes::command::Move;
 use codes::command::is_off;
 use codes::decode::Decoded;
 use codes::decode::decode;
@@ -29,16 +28,10 @@ use state::panel::Panel;
 use state::registers::Auto;
 use state::registers::Bus;
 use state::registers::Display;
+use state::registers::Move;
 use state::registers::Pending;
 use state::registers::Registers;
-
-// A number and place, the registers after, and the byte read or 0.
-pub struct Acted {
-    pub registers: Registers,
-    pub place: usize,
-    pub number: u8,
-    pub answer: u8,
-}
+use state::reply::Acted;
 
 fn refused(number: u8, registers: Registers) -> Acted
     ensures { λ r. ⌜ r ≡ record { number = number; place = 0; registers = registers; answer = 0 } ⌝ }

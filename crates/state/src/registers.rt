@@ -69,6 +69,24 @@ pub struct Registers {
     pub bus: Bus,
 }
 
+// What the two data of a command set.
+pub enum Target {
+    Cursor,
+    Offset,
+    Pointer,
+    TextHome,
+    TextArea,
+    GraphicHome,
+    GraphicArea,
+}
+
+// How the pointer moves after a store or a load.
+pub enum Move {
+    Up,
+    Down,
+    Stay,
+}
+
 impl Display {
     pub fn valid(self) -> bool
         ensures { λ r. ⌜ r ≡ validDisplay self ⌝ }

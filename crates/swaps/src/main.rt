@@ -9,6 +9,8 @@ use order::swap::may_swap;
 use printed::input::byte_in;
 use printed::input::panel_in;
 use printed::input::rest_in;
+use report::put_field;
+use report::put_refusal;
 use report::read_whole;
 use report::report;
 use state::panel::Panel;
@@ -17,10 +19,6 @@ use state::panel::Panel;
 struct Line {
     more: bool,
     whole: bool,
-}
-
-fn put_field(word: &[u8], n: usize) -> bool {
-    io::write_all(STDOUT_FILENO, word) & io::print_decimal(STDOUT_FILENO, n as u64)
 }
 
 fn put_line(i: usize, end: &[u8]) -> Line {
@@ -66,9 +64,7 @@ fn put_swaps(panel: Panel, book: &[u8], key: usize) -> bool {
 }
 
 fn show(panel: Panel, book: &[u8], key: usize, number: u8, place: usize) -> bool {
-    let first = put_field(b"refusal ", number as usize);
-    let second = put_field(b" place ", place);
-    let line = first & second & io::write_all(STDOUT_FILENO, b"\n");
+    let line = put_refusal(STDOUT_FILENO, number, place);
     let rest = put_swaps(panel, book, key);
     line & rest
 }

@@ -1,1 +1,1 @@
-pub mod Turnings
+pub mod Blocks

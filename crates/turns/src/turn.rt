@@ -1,13 +1,8 @@
-// One pair of a run, and its answer in the buffer.
+// What an access comes to in a run: taken, and its answer in the buffer.
 ghost use mathlib.Core.Path.{_≡_};
-ghost use mathlib.Core.Bool.{_||_};
-ghost use lib.Dec.{eqb};
-ghost use Rattle.single.specs.Access.{accessOf};
-ghost use Rattle.turns.specs.Turned.{turnedAll, takenOf, answeredAll, answeredOf, turnedBy};
-use single::access::Acted;
-use single::access::access;
-use state::panel::Panel;
+ghost use Rattle.turns.specs.Turned.{takenOf, answeredAll, answeredOf};
 use state::registers::Registers;
+use state::reply::Acted;
 
 // One pair of a run: the registers after, the answers so far, a number. The registers come first: a copy then begins where they were stored.
 pub struct Turned {
@@ -28,7 +23,7 @@ fn halted(number: u8, registers: Registers, given: usize) -> Turned
 }
 
 // What an access that never answers comes to: taken, or all as it was.
-fn taken(acted: Acted, registers: Registers, given: usize) -> Turned
+pub fn taken(acted: Acted, registers: Registers, given: usize) -> Turned
     ensures { λ r. ⌜ r ≡ takenOf acted registers given ⌝ }
 {
     let number = acted.number;
@@ -44,7 +39,7 @@ fn taken(acted: Acted, registers: Registers, given: usize) -> Turned
 }
 
 // What a read comes to: its answer in the buffer, or all as it was; 13 where there is no room.
-fn answered(acted: Acted, registers: Registers, answers: &mut [u8], given: usize) -> Turned
+pub fn answered(acted: Acted, registers: Registers, answers: &mut [u8], given: usize) -> Turned
     ensures { λ r. ⌜ answeredAll r (now (answers .exit)) ≡ answeredOf acted registers (now (answers .entry)) given ⌝ }
 {
     let number = acted.number;
@@ -61,25 +56,4 @@ fn answered(acted: Acted, registers: Registers, answers: &mut [u8], given: usize
         return halted(13, registers, given);
     }
     halted(number, registers, given)
-}
-
-// One pair by an access; what a read gives goes into the buffer.
-pub fn turn(
-    panel: Panel,
-    registers: Registers,
-    mem: &mut [u8],
-    rom: &[u8],
-    answers: &mut [u8],
-    given: usize,
-    kind: u8,
-    byte: u8,
-) -> Turned
-    ensures { λ r. ⌜ turnedAll r (now (mem .exit)) (now (answers .exit)) ≡ turnedBy (eqb kind 2 || eqb kind 3) (accessOf panel registers (now (mem .entry)) (now (rom .entry)) (record { kind = kind; byte = byte })) registers (now (answers .entry)) given ⌝ }
-{
-    let acted = access(panel, registers, mem, rom, kind, byte);
-    if (kind == 2) | (kind == 3) {
-        answered(acted, registers, answers, given)
-    } else {
-        taken(acted, registers, given)
-    }
 }

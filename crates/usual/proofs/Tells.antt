@@ -10,7 +10,7 @@ use borrow.Author.Tests.{le-leb, lt-ltb}
 use Rattle.ground.specs.Bytes.{wordOf, withBit}
 use Rattle.state.specs.State.{none}
 use Rattle.codes.specs.Command.{has, groupOf, decodeOf, neededOf, isOff, endsAuto}
-use Rattle.codes.specs.declared.command.Target.the-variants as target
+use Rattle.state.specs.declared.registers.Target.the-variants as target
 use Rattle.usual.specs.Types.{Panel, Or, Exor, And, Attribute, Combination, Display, Auto, Off, Bus, Command, Set, Mode, DisplayMode, Height, Run, Store, Load, Bit, Decoded, Defined, Undefined, Move, Told, Drawn}
 use Rattle.effects.specs.Effect.{withMode, withDisplayBits, withCursor, withPointer, withAuto, withLatch, withPending, movedOf}
 use Rattle.sight.specs.Steps.{code, done, refused, effectOf, dropped, commandOf, stepOf}

@@ -7,8 +7,8 @@ pub use Rattle.state.specs.declared.registers.Auto.{Auto}
 pub use Rattle.state.specs.declared.registers.Auto.the-variants.{Off, Write, Read}
 pub use Rattle.state.specs.declared.registers.Pending.{Pending}
 pub use Rattle.state.specs.declared.registers.Bus.{Bus}
-pub use Rattle.codes.specs.declared.command.Move.{Move}
-pub use Rattle.codes.specs.declared.command.Move.the-variants.{Up, Down, Stay}
+pub use Rattle.state.specs.declared.registers.Move.{Move}
+pub use Rattle.state.specs.declared.registers.Move.the-variants.{Up, Down, Stay}
 pub use Rattle.codes.specs.declared.command.Command.{Command}
 pub use Rattle.codes.specs.declared.command.Command.the-variants.{Set, Mode, DisplayMode, Height, Run, Store, Load, Bit}
 pub use Rattle.codes.specs.declared.decode.Decoded.{Decoded}
@@ -16,3 +16,4 @@ pub use Rattle.codes.specs.declared.decode.Decoded.the-variants.{Defined, Undef
 pub use Rattle.usual.specs.declared.tell.Told.{Told}
 pub use Rattle.usual.specs.declared.draw.Drawn.{Drawn}
 pub use Rattle.usual.specs.declared.ask.Asked.{Asked}
+pub use Rattle.usual.specs.declared.alone.Altered.{Altered}

@@ -1,11 +1,11 @@
 // Reads.
 ghost use Rattle.usual.specs.Ready.{Asks};
-use codes::command::Move;
 use codes::command::is_off;
 use effects::effect::bus_status;
 use effects::effect::is_read;
 use effects::store::fetch;
 use state::registers::Bus;
+use state::registers::Move;
 
 // A read done, or left: the bus then, the answers so far.
 pub struct Asked {

@@ -2,7 +2,6 @@
 ghost use mathlib.Core.Path.{_≡_};
 ghost use mathlib.Core.Bool.{false};
 ghost use Rattle.usual.specs.Ready.{Tells};
-use codes::command::Move;
 use effects::effect::with_auto;
 use effects::store::change;
 use effects::store::fetch;
@@ -10,6 +9,7 @@ use effects::store::put;
 use ground::bytes::word;
 use state::registers::Auto;
 use state::registers::Bus;
+use state::registers::Move;
 use state::registers::Pending;
 
 // A command of the bus alone, done or left as it was.

@@ -3,7 +3,6 @@ ghost use mathlib.Core.Path.{_≡_};
 ghost use mathlib.Core.Bool.{true};
 ghost use Prim.Native.Nat.{_*_, _<_, _≤_};
 ghost use lib.ListN.{length, take};
-ghost use Rattle.controller.specs.Ready.{Blocked};
 ghost use Rattle.controller.specs.Run.{turnOf, runFrom, pairsOf};
 ghost use Rattle.controller.specs.Skip.{skipStep};
 ghost use Rattle.flags.specs.Flags.{flagStep};
@@ -11,20 +10,24 @@ ghost use Rattle.flags.specs.Ready.{Following};
 ghost use Rattle.watch.specs.Watched.{ranFlags, begunFlags, ranFlagsOf, flagRunOf};
 ghost use Rattle.watch.specs.Runs.{standingFlags, turnedFlags, turnedFlagsOf, unreadOf, Quickly, Stretched, passedOf};
 use codes::command::is_off;
-use controller::run::Ran;
 use controller::run::RanOn;
+use controller::run::ended;
 use effects::effect::is_write;
-use effects::effect::push;
 use effects::effect::with_auto;
 use flags::follow::access;
 use ground::bytes::lesser;
 use ground::bytes::word;
 use state::panel::Panel;
 use state::registers::Auto;
-use state::registers::Pending;
+use state::registers::Bus;
+use state::registers::Display;
 use state::registers::Registers;
 use touch::touch::mark;
+use turns::block::block;
 use turns::note::note;
+use usual::part::datum;
+use usual::part::emptied;
+use usual::part::freed;
 
 // One pair of a run: the registers after, the answers so far, a number.
 pub(crate) struct FlagTurn {
@@ -87,27 +90,7 @@ fn turn(
     }
 }
 
-// The data from a place on, as they follow one another, stored from an address on: the place of the first pair behind them.
-fn block(mem: &mut [u8], start: u16, log: &[u8], from: usize, total: usize) -> usize
-    requires { ⌜ length (now mem) ≡ 65536 ⌝ }
-    requires { ⌜ (2 * total ≤ length (now log)) × (from ≤ total) ⌝ }
-    ensures { λ r. ⌜ Blocked (now (mem .entry)) start (now (log .entry)) from total (now (mem .exit)) r ⌝ }
-{
-    let mut pointer = start;
-    let mut i = from;
-    while i < total {
-        if log[2 * i] != 0 {
-            return i;
-        }
-        let at = pointer as usize;
-        mem[at] = log[2 * i + 1];
-        pointer = std::num::wrapping_add_u16(pointer, 1);
-        i += 1;
-    }
-    i
-}
-
-// The same, and the rows that read one of those addresses flagged: once for all of them.
+// A block of data, and the rows that read one of its addresses flagged: once for all of them.
 fn stretch(
     panel: Panel,
     registers: Registers,
@@ -152,81 +135,41 @@ pub(crate) struct Quick {
     pub done: bool,
 }
 
+// Done, the display as it was.
+fn quickened(display: Display, bus: Bus) -> Quick
+    ensures { λ r. ⌜ r ≡ record { registers = record { display = display; bus = bus }; done = true } ⌝ }
+{
+    Quick {
+        registers: Registers { display, bus },
+        done: true,
+    }
+}
+
 // What surrounds a block of data, and alters nothing that is shown: data in auto off, 24H, B0H and B2H, where they are taken.
 fn at_once(registers: Registers, kind: u8, byte: u8) -> Quick
     ensures { λ r. ⌜ Quickly registers (record { kind = kind; byte = byte }) r ⌝ }
 {
     let display = registers.display;
     let bus = registers.bus;
-    let pending = bus.pending;
     let auto = bus.auto;
     let off = is_off(auto);
-    let none = Pending {
-        count: 0,
-        older: 0,
-        newest: 0,
-    };
-    let mut next = bus;
     if (kind == 0) & off {
-        let pushed = push(pending, byte);
-        next.pending = pushed;
-        return Quick {
-            registers: Registers { display, bus: next },
-            done: true,
-        };
-    }
-    next.pending = none;
-    if (kind == 1) & off & (byte == 0x24) & (2 <= pending.count) {
-        next.pointer = word(pending.older, pending.newest);
-        return Quick {
-            registers: Registers { display, bus: next },
-            done: true,
-        };
-    }
-    if (kind == 1) & off & (byte == 0xb0) {
-        return Quick {
-            registers: Registers {
-                display,
-                bus: with_auto(next, Auto::Write),
-            },
-            done: true,
-        };
+        return quickened(display, datum(bus, byte));
     }
     if (kind == 1) & (byte == 0xb2) {
-        return Quick {
-            registers: Registers {
-                display,
-                bus: with_auto(next, Auto::Off),
-            },
-            done: true,
-        };
+        return quickened(display, freed(bus));
+    }
+    if (kind == 1) & off & (byte == 0xb0) {
+        return quickened(display, with_auto(emptied(bus), Auto::Write));
+    }
+    if (kind == 1) & off & (byte == 0x24) & (2 <= bus.pending.count) {
+        let mut next = emptied(bus);
+        next.pointer = word(bus.pending.older, bus.pending.newest);
+        return quickened(display, next);
     }
     Quick {
         registers,
         done: false,
-    }
-}
-
-// What a run answers, part by part.
-fn ended(
-    number: u8,
-    place: usize,
-    taken: usize,
-    answers: usize,
-    registers: Registers,
-    skipped: usize,
-) -> RanOn
-    ensures { λ r. ⌜ r ≡ record { ran = record { number = number; place = place; taken = taken; answers = answers; registers = registers }; skipped = skipped } ⌝ }
-{
-    RanOn {
-        ran: Ran {
-            number,
-            place,
-            taken,
-            answers,
-            registers,
-        },
-        skipped,
     }
 }
 

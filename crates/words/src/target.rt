@@ -3,8 +3,8 @@ use crate::put::put;
 use crate::put::put_address;
 use crate::put::put_decimal;
 use crate::put::put_number;
-use codes::command::Target;
 use state::registers::Registers;
+use state::registers::Target;
 
 // What a target holds; of the cursor, its X.
 fn held(target: Target, registers: Registers) -> u16 {

@@ -11,21 +11,12 @@ use libc::STDOUT_FILENO;
 use printed::input::byte_in;
 use printed::input::panel_in;
 use printed::input::rest_in;
+use report::put_refusal;
 use report::read_whole;
 use report::report;
 
 // The pairs that there is room for.
 const MOST: usize = 1048576;
-
-fn put_field(word: &[u8], n: usize) -> bool {
-    io::write_all(STDERR_FILENO, word) & io::print_decimal(STDERR_FILENO, n as u64)
-}
-
-fn put_refusal(number: u8, place: usize) -> bool {
-    let first = put_field(b"refusal ", number as usize);
-    let second = put_field(b" place ", place);
-    first & second & io::write_all(STDERR_FILENO, b"\n")
-}
 
 fn put_panel(input: &[u8]) -> bool {
     let head = [byte_in(input, 0), byte_in(input, 1), byte_in(input, 2)];
@@ -52,7 +43,7 @@ fn write_input(dual: bool, input: &[u8]) {
     let mut room = empty_room();
     let written = write_asking(panel, book, key, &mut room);
     if written.number != 0 {
-        if put_refusal(written.number, written.place) {
+        if put_refusal(STDERR_FILENO, written.number, written.place) {
             report(written.number);
         }
         return;

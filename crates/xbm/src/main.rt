@@ -13,13 +13,14 @@ use libc::STDERR_FILENO;
 use libc::STDIN_FILENO;
 use libc::STDOUT_FILENO;
 use mirror::convert::convert;
+use output::write_line;
+use output::write_rows;
 use printed::fill::character_rom;
 use printed::fill::empty_memory;
 use printed::input::panel_in;
 use printed::input::rest_in;
-use printed::parts::print_line;
-use printed::parts::print_rows;
-use report::read_exact;
+use report::put_field;
+use report::read_rom;
 use report::read_whole;
 use report::report;
 use state::panel::Panel;
@@ -100,9 +101,7 @@ fn put_all(frame: &[u8]) -> bool {
 }
 
 fn put_size(name: &[u8], dots: usize) -> bool {
-    let named = io::write_all(STDOUT_FILENO, name);
-    let put = io::print_decimal(STDOUT_FILENO, dots as u64);
-    named & put & io::write_all(STDOUT_FILENO, b"\n")
+    put_field(name, dots) & io::write_all(STDOUT_FILENO, b"\n")
 }
 
 // The dots of a row: a valid panel has at most eighty columns.
@@ -138,17 +137,8 @@ fn put_frame(
     put_xbm(panel, frame)
 }
 
-// The log program's first line at the start of `out`, and how long it is.
-fn fill_line(ran: Ran, out: &mut [u8]) -> usize
-    ensures { λ r. ⌜ Counts r (now (out .exit)) ⌝ }
-{
-    print_line(ran.taken, ran.answers, ran.number, ran.place, out)
-}
-
 fn put_line(fd: i32, ran: Ran) -> bool {
-    let mut line = [0u8; 112];
-    let end = fill_line(ran, &mut line);
-    io::write_all(fd, &line[..end])
+    write_line(fd, ran.taken, ran.answers, ran.number, ran.place)
 }
 
 // A refusal behind which there is a frame, told to whoever gave a ROM.
@@ -194,18 +184,9 @@ fn show(rom: &[u8], input: &[u8]) -> Shown {
     }
 }
 
-// With an argument the ROM is the input's first part, which has to be whole.
-fn take_rom(rom: &mut [u8]) -> bool {
-    if os::arg_count() > 1 {
-        read_exact(STDIN_FILENO, rom)
-    } else {
-        true
-    }
-}
-
 fn show_log() {
     let mut rom = character_rom();
-    if !take_rom(&mut rom) {
+    if !read_rom(os::arg_count() > 1, &mut rom) {
         return;
     }
     let mut input = [0u8; 16387];
@@ -220,24 +201,11 @@ fn show_log() {
     }
 }
 
-// A frame's rows of dots at the start of `out`, and how long they are.
-fn fill_rows(panel: Panel, frame: &[u8], out: &mut [u8]) -> usize
-    ensures { λ r. ⌜ Counts r (now (out .exit)) ⌝ }
-{
-    print_rows(panel, frame, out)
-}
-
-fn put_rows(panel: Panel, frame: &[u8]) -> bool {
-    let mut out = [0u8; 196608];
-    let end = fill_rows(panel, frame, &mut out);
-    io::write_all(STDOUT_FILENO, &out[..end])
-}
-
 // A frame in XBM's order converted back, and its rows; none where it is refused. More than 16 lines are two halves.
 fn turn_back(input: &[u8], frame: &mut [u8]) -> Shown {
     let panel = panel_in(input, input.len() > 1 && input[1] > 16);
     let reply = convert(panel, frame);
-    let put = reply.number != 0 || put_rows(panel, frame);
+    let put = reply.number != 0 || write_rows(panel, frame);
     Shown {
         whole: put,
         number: reply.number,

@@ -6,14 +6,17 @@ use borrow.Author.Needs.{needs}
 use Rattle.draw.proofs.main.Statement.{statement}
 use Rattle.draw.proofs.main.Tie as tie
 
+arg-count-requires : tie.Need-arg-count-requires
+arg-count-requires c κs = search needs
+
 character-rom-requires : tie.Need-character-rom-requires
 character-rom-requires c κs = search needs
 
-slice-aggregate-take-rom : tie.Need-slice-aggregate-take-rom
-slice-aggregate-take-rom c = search needs
+slice-aggregate-read-rom : tie.Need-slice-aggregate-read-rom
+slice-aggregate-read-rom c = search needs
 
-take-rom-requires : tie.Need-take-rom-requires
-take-rom-requires c κs = search needs
+read-rom-requires : tie.Need-read-rom-requires
+read-rom-requires c κs = search needs
 
 returns : tie.Need-returns
 returns c = search needs
@@ -26,9 +29,6 @@ read-whole-requires c κs = search needs
 
 returns-2 : tie.Need-returns-2
 returns-2 c = search needs
-
-arg-count-requires : tie.Need-arg-count-requires
-arg-count-requires c κs = search needs
 
 slice-aggregate-draw-text : tie.Need-slice-aggregate-draw-text
 slice-aggregate-draw-text c = search needs
@@ -67,14 +67,14 @@ pub main-spec : {M : Type 1} → statement M
 main-spec =
     tie.close
     (tie.spec
+    arg-count-requires
     character-rom-requires
-    slice-aggregate-take-rom
-    take-rom-requires
+    slice-aggregate-read-rom
+    read-rom-requires
     returns
     slice-aggregate-read-whole
     read-whole-requires
     returns-2
-    arg-count-requires
     slice-aggregate-draw-text
     array-share-prefix-input
     slice-aggregate-draw-text-2

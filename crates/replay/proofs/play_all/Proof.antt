@@ -6,10 +6,10 @@ use Rattle.replay.proofs.play_all.Statement.{statement}
 use Rattle.replay.proofs.play_all.Tie as tie
 
 abbrev Inv-loop : tie.InvT-loop
-Inv-loop panel memory₀ rom keep registers ran₀ bytes₀ turns₀ memory ran bytes turns = length memory ≡ length memory₀
+Inv-loop panel memory₀ rom keep ran₀ bytes₀ turns₀ memory ran bytes turns = length memory ≡ length memory₀
 
 abbrev μ-loop : tie.MeasureT-loop
-μ-loop panel memory₀ rom keep registers ran₀ bytes₀ turns₀ memory ran bytes turns = turns
+μ-loop panel memory₀ rom keep ran₀ bytes₀ turns₀ memory ran bytes turns = turns
 
 reset-requires : tie.Need-reset-requires Inv-loop μ-loop
 reset-requires c κs = search needs
@@ -32,15 +32,6 @@ same-length c = search needs
 returns : tie.Need-returns Inv-loop μ-loop
 returns c = search needs
 
-close-requires : tie.Need-close-requires Inv-loop μ-loop
-close-requires c κs = search needs
-
-same-length-2 : tie.Need-same-length-2 Inv-loop μ-loop
-same-length-2 c = search needs
-
-returns-2 : tie.Need-returns-2 Inv-loop μ-loop
-returns-2 c = search needs
-
 sub-turns : tie.Need-sub-turns Inv-loop μ-loop
 sub-turns c = search needs
 
@@ -50,11 +41,11 @@ loop-less c = search needs
 loop-again : tie.Need-loop-again Inv-loop μ-loop
 loop-again c = search needs
 
-same-length-3 : tie.Need-same-length-3 Inv-loop μ-loop
-same-length-3 c = search needs
+same-length-2 : tie.Need-same-length-2 Inv-loop μ-loop
+same-length-2 c = search needs
 
-returns-3 : tie.Need-returns-3 Inv-loop μ-loop
-returns-3 c = search needs
+returns-2 : tie.Need-returns-2 Inv-loop μ-loop
+returns-2 c = search needs
 
 pub play-all-spec : {M : Type 1} → statement M
 play-all-spec =
@@ -69,11 +60,8 @@ play-all-spec =
     wrapping-add-usize-requires
     same-length
     returns
-    close-requires
-    same-length-2
-    returns-2
     sub-turns
     loop-less
     loop-again
-    same-length-3
-    returns-3)
+    same-length-2
+    returns-2)

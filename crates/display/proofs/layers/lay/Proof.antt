@@ -17,7 +17,7 @@ give-graphic-requires : tie.Need-give-graphic-requires
 give-graphic-requires c κs = search needs
 
 lay-graphic-requires : tie.Need-lay-graphic-requires
-lay-graphic-requires c κs = (c .before .before .before .before .before .before .before .before .before .before .before .before .before .before .before .before .before .before .before .before .pre .0, own-count _ _ (c .before .before .before .before .before .before .before .before .before .before .before .before .lay-text .ensures))
+lay-graphic-requires c κs = search needs
 
 same-length : tie.Need-same-length
 same-length c = search needs
@@ -34,7 +34,7 @@ returns c =
     let a = s .args in
     let text : ℕ → ℕ = λ j. textDots (a .panel) (a .display) (a .mem .now) (a .rom .now) (a .row) (a .column + j) in
     let shown : ℕ → ℕ = λ j. displayedByte (a .panel) (a .display) (a .mem .now) (a .rom .now) (a .row) (a .column + j) in
-    (front-of text _ _ (a .text .now) (c .before .before .before .before .before .before .before .before .before .before .before .before .before .before .before .lay-text .ensures) (s .pre .1 .1) (c .before .before .before .before .before .before .before .before .before .before .give-text .ensures), (c .before .before .before .before .before .before .give-graphic .ensures, same-count text shown (a .shown .now) (c .before .before .before .before .before .before .before .before .before .before .before .before .before .before .before .lay-text .last .1 .1 .1 .1 .1 .1 .1 .0) refl (c .before .before .before .before .before .before .before .before .before .before .before .before .before .before .before .lay-text .ensures) (c .before .before .lay-graphic .ensures)))
+    (front-of text _ _ (a .text .now) (c .before .before .before .before .before .before .before .before .before .before .before .before .before .before .before .lay-text .ensures) (s .pre .1 .1) (c .before .before .before .before .before .before .before .before .before .before .give-text .ensures), (c .before .before .before .before .before .before .give-graphic .ensures, same-count text shown (a .shown .now) (c .before .before .before .before .before .before .before .before .before .before .before .before .before .before .before .lay-text .last .1 .1 .1 .1 .1 .1 .1 .0) refl (c .before .before .before .before .before .before .before .before .before .before .before .before .before .before .before .lay-text .ensures) (c .before .before .lay-graphic .ensures (a .rom .now) (own-count _ _ (c .before .before .before .before .before .before .before .before .before .before .before .before .before .before .before .lay-text .ensures)))))
 
 pub lay-spec : {M : Type 1} → statement M
 lay-spec =

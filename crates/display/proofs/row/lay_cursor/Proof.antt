@@ -1,8 +1,7 @@
 -- `lay_cursor` meets its contract: one cell, or none.
-use mathlib.Core.Path.{_≡_, ap, _∙_}
+use mathlib.Core.Path.{_∙_}
+use mathlib.Core.List.{[]}
 use native.Mathlib.Omega.{arith}
-use lib.ListN.{length}
-use Rattle.ground.proofs.Lists.{build-length}
 use Rattle.ground.proofs.Lows.{full-low}
 use Rattle.display.proofs.Passes.{inside, laid, unlaid}
 use borrow.Author.Needs.{needs}
@@ -23,23 +22,20 @@ full-requires c κs = search needs
 
 slice-write-cells : tie.Need-slice-write-cells
 slice-write-cells c =
-    let s = c .before .before .before .before .before .before .before .before in
+    let s = c .before .before .before .before .before .before in
     let a = s .args in
-    let h : length (a .cells .now) ≡ a .panel .columns = ap length (s .pre .1) ∙ build-length (a .panel .columns) _ in
-    omega (arith, h, inside (a .panel) (a .display) (a .mem .now) (a .rom .now) (a .row) (c .before .before .before .before .cursor-lit .ensures) (c .before .before .cursor-covers .ensures) (c .before .if1 .taken))
+    omega (arith, s .pre .1 .1, inside (a .panel) (a .display) [] [] (a .row) (c .before .before .before .before .cursor-lit .ensures) (c .before .before .cursor-covers .ensures) (c .before .if1 .taken))
 
 same-length : tie.Need-same-length
 same-length c = search needs
 
 returns : tie.Need-returns
 returns c =
-    let s = c .before .before .before .before .before .before .before .before in
-    laid _ _ _ _ _ (c .before .before .before .before .cursor-lit .ensures) (c .before .before .cursor-covers .ensures) (c .before .if1 .taken) (s .pre .1) (c .full .ensures ∙ full-low _ (s .pre .0 .width))
+    let s = c .before .before .before .before .before .before in
+    λ mem rom h. laid _ _ mem rom _ (c .before .before .before .before .cursor-lit .ensures) (c .before .before .cursor-covers .ensures) (c .before .if1 .taken) h (c .full .ensures ∙ full-low _ (s .pre .1 .0))
 
 returns-2 : tie.Need-returns-2
-returns-2 c =
-    let s = c .before .before .before .before .before .before .before in
-    unlaid _ _ _ _ _ (c .before .before .before .cursor-lit .ensures) (c .before .cursor-covers .ensures) (c .if1 .left) (s .pre .1)
+returns-2 c = λ mem rom h. unlaid _ _ mem rom _ (c .before .before .before .cursor-lit .ensures) (c .before .cursor-covers .ensures) (c .if1 .left) h
 
 pub lay-cursor-spec : {M : Type 1} → statement M
 lay-cursor-spec =

@@ -1,4 +1,5 @@
 -- `paint_row` meets its contract: the layers laid, the cursor over them, then packed.
+use Prim.Native.Nat.{ℕ}
 use native.Mathlib.Omega.{arith}
 use Rattle.display.specs.Displayed.{displayedByte, cellByte}
 use Rattle.display.specs.Frame.{rowOf}
@@ -21,8 +22,7 @@ lay-requires c κs =
 lay-cursor-requires : tie.Need-lay-cursor-requires
 lay-cursor-requires c κs =
     let s = c .before .before .before .before .before .before .before .before .before .before .before .before .before .before in
-    let a = s .args in
-    (s .pre .0, whole-row (displayedByte (a .panel) (a .display) (a .mem .now) (a .rom .now) (a .row)) _ (s .pre .1 .1 .0) (c .before .before .before .before .before .lay .ensures .1 .1))
+    ((s .pre .0 .lines, s .pre .0 .height), (s .pre .0 .width, omega (arith, s .pre .1 .1 .0, c .before .before .before .before .before .lay .kept .1 .1 .1 .1 .1 .1 .1 .1 .1 .0)))
 
 pack-requires : tie.Need-pack-requires
 pack-requires c κs = search needs
@@ -38,7 +38,9 @@ unfolding rowOf
 returns c =
     let s = c .before .before .before .before .before .before .before .before .before .before .before .before .before .before .before .before .before .before .before .before .before .before in
     let a = s .args in
-    packed-row (a .panel .columns) (a .panel .width) (cellByte (a .panel) (a .display) (a .mem .now) (a .rom .now) (a .row)) _ _ _ (c .before .before .before .before .before .before .before .lay-cursor .ensures) (s .pre .0 .width) (s .pre .0 .columns) (s .pre .1 .1 .1) (c .before .before .pack .ensures)
+    let shown : ℕ → ℕ = displayedByte (a .panel) (a .display) (a .mem .now) (a .rom .now) (a .row) in
+    let row = c .before .before .before .before .before .before .before .lay-cursor .ensures (a .mem .now) (a .rom .now) (whole-row shown _ (s .pre .1 .1 .0) (c .before .before .before .before .before .before .before .before .before .before .before .before .before .lay .ensures .1 .1)) in
+    packed-row (a .panel .columns) (a .panel .width) (cellByte (a .panel) (a .display) (a .mem .now) (a .rom .now) (a .row)) _ _ _ row (s .pre .0 .width) (s .pre .0 .columns) (s .pre .1 .1 .1) (c .before .before .pack .ensures)
 
 pub paint-row-spec : {M : Type 1} → statement M
 paint-row-spec =

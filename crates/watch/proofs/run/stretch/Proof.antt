@@ -8,7 +8,7 @@ block-requires : tie.Need-block-requires
 block-requires c κs = search needs
 
 sub-mark : tie.Need-sub-mark
-sub-mark c = omega (arith, c .before .before .before .block .ensures .reaches)
+sub-mark c = let s = c .before .before .before .before .before .before .before .before .before .pre in let b = c .before .before .before .block .ensures (s .0) (s .1 .0) (s .1 .1) in omega (arith, b .reaches)
 
 mark-requires : tie.Need-mark-requires
 mark-requires c κs = search needs
@@ -20,7 +20,7 @@ same-length-2 : tie.Need-same-length-2
 same-length-2 c = search needs
 
 returns : tie.Need-returns
-returns c = record { blocked = c .before .before .before .before .before .before .before .block .ensures; marks = c .before .before .mark .ensures }
+returns c = let s = c .before .before .before .before .before .before .before .before .before .before .before .before .before .pre in record { blocked = c .before .before .before .before .before .before .before .block .ensures (s .0) (s .1 .0) (s .1 .1); marks = c .before .before .mark .ensures }
 
 pub stretch-spec : {M : Type 1} → statement M
 stretch-spec =
