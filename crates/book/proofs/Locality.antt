@@ -11,16 +11,15 @@ use borrow.Author.Tests.{le-leb, lt-leb, leb-true}
 use Rattle.ground.specs.Bytes.{wordOf}
 use Rattle.ground.proofs.Tests.{both-left, both-right, both}
 use Rattle.state.specs.declared.panel.Panel.{Panel}
-use Rattle.state.specs.declared.registers.Combination.{Combination}
 use Rattle.book.specs.declared.operation.Placed.{Placed}
 use Rattle.book.specs.declared.operation.Placed.the-variants.{Text, Rectangle, Dot, Glyph, Cursor, Combine}
 use Rattle.book.specs.declared.operation.Found.{Found}
 use Rattle.book.specs.declared.operation.Found.the-variants.{Operation as Found-Operation, End, Faulty}
 use Rattle.contents.specs.Contents.{wordAt, isTwo}
 use Rattle.book.specs.Operation.{Operation, text, glyph, operationOf, sized, byteIn, textFound, readText, rectangleFound, readRectangle, dotFound, readDot, glyphFound, readGlyph, cursorFound, readCursor, combinationOf, knownMode, combineFound, readCombine, foundHere, foundAt}
-use Rattle.book.specs.Screen.{Screen, screen, refused, withOperation, operationsFrom}
+use Rattle.book.specs.Screen.{screen, withOperation, operationsFrom}
 use Rattle.book.proofs.Finding.{found-operation, found-end, at-end}
-use Rattle.book.proofs.Walking.{walk-on, walk-end, Step, step-on, step-end, step-never-faulty}
+use Rattle.book.proofs.Walking.{walk-on, walk-end, step-on, step-end, step-never-faulty}
 
 -- the same bytes in two books, so many from a place on
 pub record Alike (a : List ℕ) (at : ℕ) (b : List ℕ) (at′ n : ℕ) : Type 0 where

@@ -11,7 +11,6 @@ use Rattle.display.specs.Frame.{dotOf, frameOf}
 use Rattle.image.specs.Registered.{registerValues}
 use Rattle.image.proofs.Registries.{values-length, values-same}
 use Rattle.comparison.specs.Types.{Panel, Display}
-use Rattle.whole.specs.Whole.{RanWhole}
 use Rattle.entries.specs.Listed.{difference, differencesFrom}
 use Rattle.comparison.specs.Apart.{rowApart, dotsApart}
 use Rattle.comparison.specs.Claims.{entriesOf, AllAgree, Same}

@@ -24,7 +24,7 @@ use Rattle.entries.proofs.Enterings.{bytes-are, values-are}
 use Rattle.playback.proofs.Parted.{door-8}
 use Rattle.comparison.specs.Types.{Panel, Registers, Ran}
 use Rattle.comparison.specs.declared.compare.Compared.{Compared}
-use Rattle.whole.specs.Whole.{RanWhole, ranWhole, withoutAnswers, wholeOf}
+use Rattle.whole.specs.Whole.{RanWhole, ranWhole, wholeOf}
 use Rattle.image.specs.Registered.{registerValues}
 use Rattle.comparison.specs.Apart.{dotsApart}
 use Rattle.comparison.specs.Ready.{Few, Pictured, Paints}

@@ -8,7 +8,7 @@ use Rattle.state.specs.State.{validPanel, resetRegisters}
 use Rattle.entries.specs.declared.enter.Entered.{Entered}
 use Rattle.entries.specs.Listed.{Difference, differencesFrom}
 use Rattle.entries.specs.Entered.{EnteredAll, enteredOf}
-use Rattle.comparison.specs.Types.{Panel, Registers}
+use Rattle.comparison.specs.Types.{Panel}
 use Rattle.comparison.specs.declared.compare.Compared.{Compared}
 use Rattle.whole.specs.Whole.{RanWhole, wholeOf}
 use Rattle.image.specs.Registered.{registerValues}

@@ -3,7 +3,7 @@ use mathlib.Core.Path.{_≡_, refl, ap, sym, _∙_}
 use mathlib.Core.Bool.{Bool, true, false, cond}
 use mathlib.Core.List.{List, [], _∷_}
 use mathlib.Core.Logic.{_⊎_, inl, inr}
-use Prim.Native.Nat.{ℕ, zero, suc, _+_, _*_, _≤_}
+use Prim.Native.Nat.{ℕ, zero, suc, _+_, _≤_}
 use native.Mathlib.Nat.{zero-add}
 use native.Mathlib.Omega.{arith}
 use lib.Dec.{eqb}
@@ -13,13 +13,13 @@ use Rattle.contents.specs.declared.entry.Entry.{Entry}
 use Rattle.contents.specs.declared.ask.Asked.{Asked}
 use Rattle.contents.specs.declared.ask.Asked.the-variants.{Body as Asked-Body, Refused}
 use Rattle.contents.specs.declared.open.Spans.{Spans}
-use Rattle.contents.specs.Contents.{Body, Contents, sound, wrong, withBody, isTwo, countAt, entriesAt, entrySize, firstBody, entryAt, wrongEntry, bodyOf, entriesFrom, opens, contentsIn, contentsOf}
+use Rattle.contents.specs.Contents.{Body, Contents, sound, wrong, withBody, isTwo, countAt, entriesAt, entrySize, firstBody, entryAt, wrongEntry, bodyOf, entriesFrom, opens, contentsOf}
 use Rattle.contents.specs.Inside.{Inside}
 use Rattle.contents.specs.Spans.{spansOf, spanFrom}
 use Rattle.contents.specs.Asked.{bodyAt, bodyIn, askedOf}
 use Rattle.contents.proofs.Entries.{right, opened}
 use Rattle.contents.proofs.Soundness.{sound-book}
-use Rattle.contents.proofs.Spanning.{Stands, spans-stand, span-body}
+use Rattle.contents.proofs.Spanning.{spans-stand, span-body}
 
 not-body : (n place : ℕ) {s e : ℕ} → Refused n place ≡ Asked-Body s e → ⊥
 not-body n place h = let z : _≡_ {A = ℕ} 0 1 = cc in omega arith

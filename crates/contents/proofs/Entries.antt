@@ -2,10 +2,9 @@
 use mathlib.Core.Path.{_≡_, refl, ap, sym, _∙_}
 use mathlib.Core.Bool.{Bool, true, false, cond, not, _&&_, _||_}
 use mathlib.Core.List.{List}
-use Prim.Native.Nat.{ℕ, zero, suc, _+_, _-_, _*_, _<_, _≤_}
+use Prim.Native.Nat.{ℕ, _+_, _-_, _*_, _<_, _≤_}
 use native.Mathlib.Omega.{arith}
 use lib.Dec.{ltb, leb, eqb}
-use lib.ListN.{length}
 use borrow.Author.Tests.{ltb-false, leb-true, eqb-true, eq-eqb, not-false}
 use Rattle.ground.proofs.Conjuncts.{five, neither}
 use Rattle.contents.specs.declared.entry.Entry.{Entry}

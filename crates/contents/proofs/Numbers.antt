@@ -1,11 +1,11 @@
 -- The number and place of a screen asked for.
-use mathlib.Core.Path.{_≡_, refl, ap, sym, _∙_}
+use mathlib.Core.Path.{_≡_, refl, ap, _∙_}
 use mathlib.Core.Bool.{Bool, true, false, cond, _||_}
 use mathlib.Core.List.{List, [], _∷_}
 use Prim.Native.Nat.{ℕ}
 use lib.Dec.{eqb}
 use Rattle.contents.specs.declared.ask.Asked.{Asked}
-use Rattle.contents.specs.declared.ask.Asked.the-variants.{Body as Asked-Body, Refused}
+use Rattle.contents.specs.declared.ask.Asked.the-variants.{Body as Asked-Body}
 use Rattle.contents.specs.Contents.{Body, Contents, sound, wrong, contentsOf}
 use Rattle.contents.specs.Asked.{bodyAt, bodyIn, askedOf}
 use Rattle.contents.specs.Numbers.{present, contentsNumber, contentsPlace, askedNumber, askedPlace}

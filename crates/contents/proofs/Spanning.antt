@@ -1,19 +1,18 @@
 -- The tables of a book's bodies: what stands at an index, and the search for a key.
 use mathlib.Core.Path.{_≡_, refl, ap, sym, _∙_}
 use mathlib.Core.Bool.{Bool, true, false, cond}
-use mathlib.Core.List.{List, [], _∷_, _++_}
+use mathlib.Core.List.{List, [], _∷_}
 use Prim.Native.Nat.{ℕ, zero, suc, _+_, _-_, _<_, _≤_}
 use native.Mathlib.Omega.{arith}
 use lib.Dec.{eqb}
 use lib.ListN.{length, getD, drop, length-replicate, List·getD-append}
 use lib.Seq.{sets, sets-eq}
 use Rattle.ground.specs.Lists.{zeros}
-use Rattle.contents.specs.declared.ask.Asked.{Asked}
 use Rattle.contents.specs.declared.ask.Asked.the-variants.{Body as Asked-Body, Refused}
 use Rattle.contents.specs.declared.open.Spans.{Spans}
-use Rattle.contents.specs.Contents.{Body, Contents, sound, wrong}
-use Rattle.contents.specs.Spans.{keysOf, startsOf, endsOf, shutSpans, spansOn, spansOf, spanFrom}
-use Rattle.contents.specs.Asked.{bodyAt, bodyIn}
+use Rattle.contents.specs.Contents.{Body, sound}
+use Rattle.contents.specs.Spans.{keysOf, startsOf, endsOf, spansOf, spanFrom}
+use Rattle.contents.specs.Asked.{bodyAt}
 
 -- some bodies stand in the tables from an index on
 pub record Stands (s : Spans) (i : ℕ) (bs : List Body) : Type 0 where

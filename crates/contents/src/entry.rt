@@ -3,7 +3,7 @@ ghost use mathlib.Core.Path.{_≡_};
 ghost use mathlib.Core.Bool.{false};
 ghost use Prim.Native.Nat.{_+_, _≤_};
 ghost use lib.ListN.{length};
-ghost use Rattle.contents.specs.Contents.{countAt, entriesAt, entrySize, lead, firstBody, entryAt, wrongEntry};
+ghost use Rattle.contents.specs.Contents.{countAt, entriesAt, entrySize, firstBody, entryAt, wrongEntry};
 use super::bytes::word_at;
 
 // What a screen is asked for by, and where its body begins and how long it is.

@@ -40,16 +40,12 @@ pub record Kept {M : Type 0} (P : M → Type 0) (e : Run M) : Type 0 where
   pub within : e .standing .given ≤ length (e .standing .answers)
   pub ends : Ends (e .end)
 
--- before pair i of the first `total` pairs of a log: what is left comes to a run, and the answer buffer is so wide
-pub record GoingTo {M : Type 0} (step : M → Pair → Step M) (P : M → Type 0) (log : List ℕ) (total wide : ℕ) (goal : Run M) (s : Standing M) (i : ℕ) : Type 0 where
+-- before pair i of a run over the first `total` pairs of a log
+pub record Going {M : Type 0} (step : M → Pair → Step M) (P : M → Type 0) (log : List ℕ) (total : ℕ) (s₀ s : Standing M) (i : ℕ) : Type 0 where
   pub inside : i ≤ total
   pub sound : P (s .machine)
-  pub room : length (s .answers) ≡ wide
-  pub left : runFrom step i (take (total - i) (drop i (pairsOf log))) s ≡ goal
-
--- to the whole run
-abbrev pub Going : {M : Type 0} → (M → Pair → Step M) → (M → Type 0) → List ℕ → ℕ → Standing M → Standing M → ℕ → Type 0
-Going step P log total s₀ s i = GoingTo step P log total (length (s₀ .answers)) (runFrom step 0 (take total (pairsOf log)) s₀) s i
+  pub room : length (s .answers) ≡ length (s₀ .answers)
+  pub left : runFrom step i (take (total - i) (drop i (pairsOf log))) s ≡ runFrom step 0 (take total (pairsOf log)) s₀
 
 module _ {M : Type 0} where
   abbrev Inside : Turn M → Type 0
@@ -94,9 +90,9 @@ module _ {M : Type 0} where
     going log total s₀ k =
         record { inside = omega arith; sound = k; room = refl; left = ap (λ (n : ℕ). runFrom step 0 (take n (pairsOf log)) s₀) (let e : total - 0 ≡ total = omega arith in e) }
 
-    module _ {log : List ℕ} {total wide : ℕ} {goal : Run M} {s : Standing M} {i : ℕ} (g : GoingTo step P log total wide goal s i) where
+    module _ {log : List ℕ} {total : ℕ} {s₀ s : Standing M} {i : ℕ} (g : Going step P log total s₀ s i) where
       -- the stated number reached
-      pub going-ends : total ≤ i → ended s i ≡ goal
+      pub going-ends : total ≤ i → ended s i ≡ runFrom step 0 (take total (pairsOf log)) s₀
       unfolding runFrom
       going-ends h =
           let e : total - i ≡ 0 = omega arith in
@@ -107,17 +103,17 @@ module _ {M : Type 0} where
         afterHere o =
             afterTurn o (λ t. runFrom step (suc i) (take (total - (i + 1)) (drop (i + 1) (pairsOf log))) t) (λ n. record { standing = s; taken = i; end = short n })
 
-        turned : afterHere (turnOf s (step (s .machine) (pairAt log i))) ≡ goal
+        turned : afterHere (turnOf s (step (s .machine) (pairAt log i))) ≡ runFrom step 0 (take total (pairsOf log)) s₀
         unfolding runFrom
         turned = sym (ap (λ (qs : List Pair). runFrom step i qs s) (pairs-here log total i h l)) ∙ g .left
 
         -- a pair that is not taken
         pub going-halts : {n : ℕ} → turnOf s (step (s .machine) (pairAt log i)) ≡ halted n
-            → record { standing = s; taken = i; end = short n } ≡ goal
+            → record { standing = s; taken = i; end = short n } ≡ runFrom step 0 (take total (pairsOf log)) s₀
         going-halts w = sym (ap afterHere w) ∙ turned
 
         -- a pair that is taken
-        pub going-went : {t : Standing M} → turnOf s (step (s .machine) (pairAt log i)) ≡ went t → GoingTo step P log total wide goal t (i + 1)
+        pub going-went : {t : Standing M} → turnOf s (step (s .machine) (pairAt log i)) ≡ went t → Going step P log total s₀ t (i + 1)
         going-went {t} w =
             let k = subst (Keeps P s) w (turn-keeps P s (step (s .machine) (pairAt log i)) (keeps (s .machine) (g .sound) (pairAt log i))) in
             record {
@@ -129,14 +125,14 @@ module _ {M : Type 0} where
 
         -- done, the pair being of a known kind
         pub going-done : (n : ℕ) → getD log (2 * i) 0 ≡ n → {m : M} → step (s .machine) (record { kind = n; byte = getD log (2 * i + 1) 0 }) ≡ done m
-            → GoingTo step P log total wide goal (record { machine = m; answers = s .answers; given = s .given }) (i + 1)
+            → Going step P log total s₀ (record { machine = m; answers = s .answers; given = s .given }) (i + 1)
         going-done n e h =
             going-went (ap (λ (k : ℕ). turnOf s (step (s .machine) (record { kind = k; byte = getD log (2 * i + 1) 0 }))) e ∙ ap (turnOf s) h)
 
         -- answered, and there is room
         pub going-answers : (n : ℕ) → getD log (2 * i) 0 ≡ n → {m : M} {b : ℕ} → step (s .machine) (record { kind = n; byte = getD log (2 * i + 1) 0 }) ≡ answered m b
             → ltb (s .given) (length (s .answers)) ≡ true
-            → GoingTo step P log total wide goal (record { machine = m; answers = set (s .answers) (s .given) b; given = s .given + 1 }) (i + 1)
+            → Going step P log total s₀ (record { machine = m; answers = set (s .answers) (s .given) b; given = s .given + 1 }) (i + 1)
         going-answers n e {m} {b} h r =
             going-went
             (ap (λ (k : ℕ). turnOf s (step (s .machine) (record { kind = k; byte = getD log (2 * i + 1) 0 }))) e ∙ ap (turnOf s) h

@@ -14,18 +14,19 @@ use Rattle.ground.proofs.Tests.{cond-has, both, both-left, both-right}
 use Rattle.ground.proofs.Stores.{stored-length}
 use Rattle.state.specs.State.{validPanel, none}
 use Rattle.codes.specs.Command.{isOff}
-use Rattle.controller.specs.Types.{Panel, Display, Auto, Off, Write, Read, Bus, Registers, RanOn, Turned, Noted, Brought, Told, Altered, Asked}
+use Rattle.controller.specs.Types.{Panel, Display, Auto, Off, Write, Read, Bus, Registers, RanOn, Turned, Noted, Told, Drawn, Asked}
 use Rattle.effects.specs.Effect.{withBus, withPointer, withAuto, withPending, withPhase, pushed, isWrite}
 use Rattle.controller.specs.Access.{Pair, Step, done, answered, refused, dataWriteOf, stepOf, accessOf}
 use Rattle.effects.specs.Machine.{Machine, machine}
-use Rattle.controller.specs.Run.{pairsOf, Standing, Turn, went, halted, turnOf, Run, runFrom}
+use Rattle.controller.specs.Run.{pairsOf, Standing, Turn, went, halted, turnOf, runFrom}
 use Rattle.controller.specs.Skip.{Skipping, passedBy, skipBy, skipStep, ranOnAll, ranOnOf}
-use Rattle.usual.specs.Ready.{Tells, Alones, Asks}
-use Rattle.controller.specs.Ready.{Runs, Brings, Blocked, pairsFrom, dataOf, standing, standingOn, TurnedAll, turnedAll, turnedOf, turnedBy, NotedAll, notedAll, notedOf}
+use Rattle.usual.specs.Ready.{Tells, Draws, Asks}
+use Rattle.usual.proofs.Tells.{leaves}
+use Rattle.controller.specs.Ready.{Runs, Blocked, pairsFrom, dataOf, standing, standingOn, TurnedAll, turnedAll, turnedOf, turnedBy, NotedAll, notedAll, notedOf}
 use Rattle.controller.proofs.Blocks.{pairAt, pairs-behind, write-only, block-run}
-use Rattle.controller.proofs.Laws.{Sounds, sounds, sounds-valid, step-sound}
+use Rattle.controller.proofs.Laws.{Sounds, sounds-valid, step-sound}
 use Rattle.controller.proofs.Splits.{projected}
-use Rattle.controller.proofs.Goings.{Leaves, Proper, goes, stops, GoingTo, going, going-ends, going-halts, going-went, going-done, going-answers}
+use Rattle.controller.proofs.Goings.{Leaves, Proper, goes, stops, Going, going, going-ends, going-halts, going-went, going-done, going-answers}
 use Rattle.controller.proofs.Turns.{Answering, answers, declines, Acting, acts, refuses, step-answering, step-acting, step-number, turned-runs}
 
 answering-proper : (s : Standing Machine) {o : Step Machine} → Answering (s .machine) o → Proper (turnOf s o)
@@ -67,13 +68,12 @@ module _ (p : Panel) (rom : List ℕ) (on : Bool) (n : ℕ) where
       go (answered m b) l = record { sound = l; long = k .long; fits = k .fits }
       go (refused m) l = listing m (ltb (2 * s .listed + 1) (length (s .skips))) on refl
 
--- before pair i of either run: the machine and the answers, the list and the entries in it; what is left comes to a run, and answers and
--- list are so long
-pub record Running (p : Panel) (on : Bool) (rom log : List ℕ) (total wide long : ℕ) (goal : Run (Skipping Machine)) (s : Standing Machine) (skips : List ℕ) (listed i : ℕ) : Type 0 where
-  pub goes-on : GoingTo (skipStep on (stepOf p rom)) (SoundOn long) log total wide goal (standingOn s skips listed i) i
+-- before pair i of either run: the machine and the answers, the list and the entries in it
+pub record Running (p : Panel) (on : Bool) (rom log : List ℕ) (total : ℕ) (s₀ : Standing (Skipping Machine)) (s : Standing Machine) (skips : List ℕ) (listed i : ℕ) : Type 0 where
+  pub goes-on : Going (skipStep on (stepOf p rom)) (SoundOn (length (s₀ .machine .skips))) log total s₀ (standingOn s skips listed i) i
 
 pub running : (p : Panel) (on : Bool) (rom log : List ℕ) (total : ℕ) (s : Standing Machine) (skips : List ℕ) → Sounds (s .machine)
-    → Running p on rom log total (length (s .answers)) (length skips) (runFrom (skipStep on (stepOf p rom)) 0 (take total (pairsOf log)) (standingOn s skips 0 0)) s skips 0 0
+    → Running p on rom log total (standingOn s skips 0 0) s skips 0 0
 running p on rom log total s skips k =
     record { goes-on = going (skipStep on (stepOf p rom)) (SoundOn (length skips)) (skip-sound p rom on (length skips)) log total (standingOn s skips 0 0) (record { sound = k; long = refl; fits = omega arith }) }
 
@@ -143,17 +143,17 @@ skip-proper p rom on s q = go (outcome on s (stepOf p rom (s .machine .machine) 
     go takes = goes
     go ends = stops
 
-module _ {p : Panel} {on : Bool} {rom log : List ℕ} {total wide long : ℕ} {goal : Run (Skipping Machine)} {s : Standing Machine} {skips : List ℕ} {listed i : ℕ}
-    (g : Running p on rom log total wide long goal s skips listed i) where
+module _ {p : Panel} {on : Bool} {rom log : List ℕ} {total : ℕ} {s₀ : Standing (Skipping Machine)} {s : Standing Machine} {skips : List ℕ} {listed i : ℕ}
+    (g : Running p on rom log total s₀ s skips listed i) where
   abbrev steps : Skipping Machine → Pair → Step (Skipping Machine)
   steps = skipStep on (stepOf p rom)
 
   abbrev Kind : Skipping Machine → Type 0
-  Kind = SoundOn long
+  Kind = SoundOn (length (s₀ .machine .skips))
 
   pub running-ends : total ≤ i
       → {y : RanOn} → y ≡ record { ran = record { number = 0; place = 0; taken = i; answers = s .given; registers = s .machine .registers }; skipped = listed }
-      → ranOnAll y (s .machine .memory) (s .answers) skips ≡ ranOnOf (goal)
+      → ranOnAll y (s .machine .memory) (s .answers) skips ≡ ranOnOf (runFrom steps 0 (take total (pairsOf log)) s₀)
   running-ends h f =
       ap (λ (o : RanOn). ranOnAll o (s .machine .memory) (s .answers) skips) f
       ∙ ap ranOnOf (going-ends steps Kind (skip-sound p rom on _) (g .goes-on) h)
@@ -166,12 +166,12 @@ module _ {p : Panel} {on : Bool} {rom log : List ℕ} {total wide long : ℕ} {g
 
   module _ (h : i < total) (l : 2 * total ≤ length log) where
     running-done : (n : ℕ) → getD log (2 * i) 0 ≡ n → {m : Machine} → stepOf p rom (s .machine) (record { kind = n; byte = getD log (2 * i + 1) 0 }) ≡ done m
-        → Running p on rom log total wide long goal (record { machine = m; answers = s .answers; given = s .given }) skips listed (i + 1)
+        → Running p on rom log total s₀ (record { machine = m; answers = s .answers; given = s .given }) skips listed (i + 1)
     running-done n e x = record { goes-on = going-done steps Kind (skip-sound p rom on _) (g .goes-on) h l n e (ap (skipBy on (standingOn s skips listed i .machine)) x) }
 
     running-answers : (n : ℕ) → getD log (2 * i) 0 ≡ n → {m : Machine} {b : ℕ}
         → stepOf p rom (s .machine) (record { kind = n; byte = getD log (2 * i + 1) 0 }) ≡ answered m b → ltb (s .given) (length (s .answers)) ≡ true
-        → Running p on rom log total wide long goal (record { machine = m; answers = set (s .answers) (s .given) b; given = s .given + 1 }) skips listed (i + 1)
+        → Running p on rom log total s₀ (record { machine = m; answers = set (s .answers) (s .given) b; given = s .given + 1 }) skips listed (i + 1)
     running-answers n e x r = record { goes-on = going-answers steps Kind (skip-sound p rom on _) (g .goes-on) h l n e (ap (skipBy on (standingOn s skips listed i .machine)) x) r }
 
     module _ {t : Turned} {m a : List ℕ} {x : Noted} {b : List ℕ} (k : Runs p (s .machine .registers) (s .machine .memory) rom)
@@ -184,25 +184,25 @@ module _ {p : Panel} {on : Bool} {rom log : List ℕ} {total wide long : ℕ} {g
           (subst (λ (y : TurnedAll). Outcome (standingOn s skips listed i) (turnOf (standingOn s skips listed i) (steps (standingOn s skips listed i .machine) (pairAt log i))) y (notedOf on (y .turned .number) i skips listed)) (sym (e ∙ turned-runs k (s .answers) (s .given) (getD log (2 * i) 0) (getD log (2 * i + 1) 0))) o)
 
       -- a pair taken, or listed
-      pub going-on : x .number ≡ 0 → Running p on rom log total wide long goal (standing (t .registers) m a (t .given)) b (x .listed) (i + 1)
+      pub going-on : x .number ≡ 0 → Running p on rom log total s₀ (standing (t .registers) m a (t .given)) b (x .listed) (i + 1)
       going-on z = go _ _ _ comes z refl
         where
           go : (o : Turn (Skipping Machine)) (y : TurnedAll) (u : NotedAll) → Outcome (standingOn s skips listed i) o y u → u .noted .number ≡ 0
               → turnOf (standingOn s skips listed i) (steps (standingOn s skips listed i .machine) (pairAt log i)) ≡ o
-              → Running p on rom log total wide long goal (standing (y .turned .registers) (y .memory) (y .answers) (y .turned .given)) (u .skips) (u .noted .listed) (i + 1)
+              → Running p on rom log total s₀ (standing (y .turned .registers) (y .memory) (y .answers) (y .turned .given)) (u .skips) (u .noted .listed) (i + 1)
           go (went _) y u takes z w = record { goes-on = going-went steps Kind (skip-sound p rom on _) (g .goes-on) h l w }
           go (halted (suc n)) y u ends z w = absurd (let q : ⊥ = omega arith in q)
 
       -- a pair that stops the run
       pub going-stops : (x .number ≡ 0 → ⊥)
           → {y : RanOn} → y ≡ record { ran = record { number = x .number; place = i; taken = i; answers = t .given; registers = t .registers }; skipped = x .listed }
-          → ranOnAll y m a b ≡ ranOnOf (goal)
+          → ranOnAll y m a b ≡ ranOnOf (runFrom steps 0 (take total (pairsOf log)) s₀)
       going-stops z f = ap (λ (o : RanOn). ranOnAll o m a b) f ∙ go _ _ _ comes z refl
         where
           go : (o : Turn (Skipping Machine)) (y : TurnedAll) (u : NotedAll) → Outcome (standingOn s skips listed i) o y u → (u .noted .number ≡ 0 → ⊥)
               → turnOf (standingOn s skips listed i) (steps (standingOn s skips listed i .machine) (pairAt log i)) ≡ o
               → ranOnAll (record { ran = record { number = u .noted .number; place = i; taken = i; answers = y .turned .given; registers = y .turned .registers }; skipped = u .noted .listed }) (y .memory) (y .answers) (u .skips)
-              ≡ ranOnOf (goal)
+              ≡ ranOnOf (runFrom steps 0 (take total (pairsOf log)) s₀)
           go (went _) y u takes z w = absurd (z refl)
           go (halted (suc n)) y u ends z w = ap ranOnOf (going-halts steps Kind (skip-sound p rom on _) (g .goes-on) h l w)
 
@@ -211,10 +211,10 @@ module _ {p : Panel} {on : Bool} {rom log : List ℕ} {total wide long : ℕ} {g
       → {m : List ℕ} {end : ℕ} {next : Bus}
       → Blocked (s .machine .memory) (s .machine .registers .bus .pointer) log i total m end
       → next ≡ withPointer (s .machine .registers .bus) ((s .machine .registers .bus .pointer + (end - i)) % 65536)
-      → Running p on rom log total wide long goal (standing (withBus (s .machine .registers) next) m (s .answers) (s .given)) skips listed end
+      → Running p on rom log total s₀ (standing (withBus (s .machine .registers) next) m (s .answers) (s .given)) skips listed end
   going-block {b} e w {m} {end} k f =
       let j : (s .machine .registers .bus .pointer + (end - i)) % 65536 ≡ (s .machine .registers .bus .pointer + length (dataOf (pairsFrom log i total))) % 65536 = omega (arith, k .reaches) in
-      subst (λ (x : Bus). Running p on rom log total wide long goal (standing (withBus (s .machine .registers) x) m (s .answers) (s .given)) skips listed end) (sym f)
+      subst (λ (x : Bus). Running p on rom log total s₀ (standing (withBus (s .machine .registers) x) m (s .answers) (s .given)) skips listed end) (sym f)
       (record {
         goes-on = record {
           inside = k .inside;
@@ -241,90 +241,51 @@ off-only Write e = absurd (false≢true e)
 off-only Read e = absurd (false≢true e)
 
 -- the pairs that are taken apart from the others
-module _ {p : Panel} {on : Bool} {rom log : List ℕ} {total wide long : ℕ} {goal : Run (Skipping Machine)} {d : Display} {b : Bus} {m a : List ℕ} {n : ℕ} {skips : List ℕ} {listed i : ℕ}
-    (g : Running p on rom log total wide long goal (standing (record { display = d; bus = b }) m a n) skips listed i) where
-  pub going-kept : {after : List ℕ} → after ≡ m → Running p on rom log total wide long goal (standing (record { display = d; bus = b }) after a n) skips listed i
-  going-kept e = subst (λ (x : List ℕ). Running p on rom log total wide long goal (standing (record { display = d; bus = b }) x a n) skips listed i) (sym e) g
+module _ {p : Panel} {on : Bool} {rom log : List ℕ} {total : ℕ} {s₀ : Standing (Skipping Machine)} {d : Display} {b : Bus} {m a : List ℕ} {n : ℕ} {skips : List ℕ} {listed i : ℕ}
+    (g : Running p on rom log total s₀ (standing (record { display = d; bus = b }) m a n) skips listed i) where
+  pub going-kept : {after : List ℕ} → after ≡ m → Running p on rom log total s₀ (standing (record { display = d; bus = b }) after a n) skips listed i
+  going-kept e = subst (λ (x : List ℕ). Running p on rom log total s₀ (standing (record { display = d; bus = b }) x a n) skips listed i) (sym e) g
 
-  pub going-held : {after : List ℕ} → after ≡ a → Running p on rom log total wide long goal (standing (record { display = d; bus = b }) m after n) skips listed i
-  going-held e = subst (λ (x : List ℕ). Running p on rom log total wide long goal (standing (record { display = d; bus = b }) m x n) skips listed i) (sym e) g
+  pub going-held : {after : List ℕ} → after ≡ a → Running p on rom log total s₀ (standing (record { display = d; bus = b }) m after n) skips listed i
+  going-held e = subst (λ (x : List ℕ). Running p on rom log total s₀ (standing (record { display = d; bus = b }) m x n) skips listed i) (sym e) g
 
   module _ (h : i < total) (l : 2 * total ≤ length log) where
-    pub going-alone : {u : Altered} → Alones d b (pairAt log i) u → u .done ≡ true
-        → Running p on rom log total wide long goal (standing (record { display = u .display; bus = u .bus }) m a n) skips listed (i + 1)
-    going-alone k e = running-done g h l _ refl (k .acts e p rom m)
+    pub going-ticks : getD log (2 * i) 0 ≡ 4 → {x : Display} → x ≡ withPhase d (not (d .phase))
+        → Running p on rom log total s₀ (standing (record { display = x; bus = b }) m a n) skips listed (i + 1)
+    going-ticks e f = running-done g h l 4 e (λ t. done (machine (record { display = sym f t; bus = b }) m))
+
+    pub going-leaves : (eqb (getD log (2 * i) 0) 1 && eqb (getD log (2 * i + 1) 0) 0xb2) ≡ true → {next : Bus} → next ≡ withPending (withAuto b Off) none
+        → Running p on rom log total s₀ (standing (record { display = d; bus = next }) m a n) skips listed (i + 1)
+    going-leaves t f =
+        running-done g h l 1 (eqb-true (getD log (2 * i) 0) 1 (both-left (eqb (getD log (2 * i) 0) 1) (eqb (getD log (2 * i + 1) 0) 0xb2) t))
+        (leaves p rom m d b (getD log (2 * i + 1) 0)
+        (eqb-true (getD log (2 * i + 1) 0) 0xb2 (both-right (eqb (getD log (2 * i) 0) 1) (eqb (getD log (2 * i + 1) 0) 0xb2) t)) {next = withAuto b Off} refl
+        ∙ (λ t. done (machine (record { display = d; bus = sym f t }) m)))
 
     pub going-asks : {u : Asked} {after : List ℕ} → Asks (d .phase) b m a n (getD log (2 * i) 0) u after → u .done ≡ true
-        → Running p on rom log total wide long goal (standing (record { display = d; bus = u .bus }) m after (u .given)) skips listed (i + 1)
+        → Running p on rom log total s₀ (standing (record { display = d; bus = u .bus }) m after (u .given)) skips listed (i + 1)
     going-asks {u} {after} k e =
         let x = k .acts e p rom d (getD log (2 * i + 1) 0) refl in
-        subst (λ (w : List ℕ). Running p on rom log total wide long goal (standing (record { display = d; bus = u .bus }) m w (u .given)) skips listed (i + 1)) (sym (x .holds))
-        (subst (λ (w : ℕ). Running p on rom log total wide long goal (standing (record { display = d; bus = u .bus }) m (set a n (x .byte)) w) skips listed (i + 1)) (sym (x .counts))
+        subst (λ (w : List ℕ). Running p on rom log total s₀ (standing (record { display = d; bus = u .bus }) m w (u .given)) skips listed (i + 1)) (sym (x .holds))
+        (subst (λ (w : ℕ). Running p on rom log total s₀ (standing (record { display = d; bus = u .bus }) m (set a n (x .byte)) w) skips listed (i + 1)) (sym (x .counts))
         (running-answers g h l _ refl (x .steps) (x .room)))
 
     module _ {off : Bool} (e : off ≡ isOff (b .auto)) where
       pub going-pushes : (eqb (getD log (2 * i) 0) 0 && off) ≡ true → {next : Bus} → next ≡ withPending b (pushed (b .pending) (getD log (2 * i + 1) 0))
-          → Running p on rom log total wide long goal (standing (record { display = d; bus = next }) m a n) skips listed (i + 1)
+          → Running p on rom log total s₀ (standing (record { display = d; bus = next }) m a n) skips listed (i + 1)
       going-pushes t f =
           running-done g h l 0 (eqb-true (getD log (2 * i) 0) 0 (both-left (eqb (getD log (2 * i) 0) 0) off t))
           (ap (λ (x : Auto). dataWriteOf x (machine (record { display = d; bus = b }) m) (getD log (2 * i + 1) 0)) (off-only (b .auto) (sym e ∙ both-right (eqb (getD log (2 * i) 0) 0) off t))
           ∙ (λ t. done (machine (record { display = d; bus = sym f t }) m)))
 
       pub going-tells : {told : Told} {after : List ℕ} → Tells b m (eqb (getD log (2 * i) 0) 1 && off) (getD log (2 * i + 1) 0) told after → told .done ≡ true
-          → Running p on rom log total wide long goal (standing (record { display = d; bus = told .bus }) after a n) skips listed (i + 1)
+          → Running p on rom log total s₀ (standing (record { display = d; bus = told .bus }) after a n) skips listed (i + 1)
       going-tells k t =
           running-done g h l 1 (eqb-true (getD log (2 * i) 0) 1 (both-left (eqb (getD log (2 * i) 0) 1) off (k .quiet t)))
           (k .acts t (sym e ∙ both-right (eqb (getD log (2 * i) 0) 1) off (k .quiet t)) p rom d)
 
--- behind some usual pairs
-pub going-brings : {p : Panel} {on : Bool} {rom log : List ℕ} {total wide long : ℕ} {goal : Run (Skipping Machine)} {r : Registers} {m a : List ℕ} {n : ℕ} {skips : List ℕ} {listed i : ℕ}
-    → Running p on rom log total wide long goal (standing r m a n) skips listed i → {b : Brought} {after room : List ℕ} → Brings log total r m a n i b after room
-    → Running p on rom log total wide long goal (standing (b .registers) after room (b .given)) skips listed (b .at)
-going-brings {p} {on} {rom} {skips = skips} {listed = listed} g {b} {after} k =
-    record {
-      goes-on = record {
-        inside = k .inside;
-        sound = record { sound = sounds (b .registers) after (k .state) (k .memory); long = g .goes-on .sound .long; fits = g .goes-on .sound .fits };
-        room = k .long ∙ g .goes-on .room;
-        left = k .left p on rom skips listed (g .goes-on .sound .fits) ∙ g .goes-on .left;
-      };
-    }
-
--- before pair i of some usual pairs: what is left comes to what it came to before the first of them
-pub record Bringing (log : List ℕ) (total from : ℕ) (s₀ s : Standing Machine) (i : ℕ) : Type 0 where
-  pub reaches : from ≤ i
-  pub goes : (p : Panel) (on : Bool) (rom skips : List ℕ) (listed : ℕ) → 2 * listed ≤ length skips
-      → Running p on rom log total (length (s₀ .answers)) (length skips) (runFrom (skipStep on (stepOf p rom)) from (pairsFrom log from total) (standingOn s₀ skips listed from)) s skips listed i
-
-pub bringing : (log : List ℕ) (total from : ℕ) (s : Standing Machine) → from ≤ total → Sounds (s .machine) → Bringing log total from s s from
-bringing log total from s h k =
-    record { reaches = omega arith; goes = λ p on rom skips listed f. record { goes-on = record { inside = h; sound = record { sound = k; long = refl; fits = f }; room = refl; left = refl } } }
-
-module _ {log : List ℕ} {total from : ℕ} {s₀ s : Standing Machine} {i : ℕ} (g : Bringing log total from s₀ s i) where
-  -- the law of a run's pair, for every run
-  pub bring : {t : Standing Machine} {j : ℕ} → i ≤ j
-      → ((p : Panel) (on : Bool) (rom skips : List ℕ) (listed wide long : ℕ) (goal : Run (Skipping Machine)) → Running p on rom log total wide long goal s skips listed i → Running p on rom log total wide long goal t skips listed j)
-      → Bringing log total from s₀ t j
-  bring h f = let x = g .reaches in record { reaches = omega (arith, x, h); goes = λ p on rom skips listed l. f p on rom skips listed _ _ _ (g .goes p on rom skips listed l) }
-
-  some : Running (record { columns = 0; lines = 0; width = 0; dual = false }) true [] log total (length (s₀ .answers)) 0 (runFrom (skipStep true (stepOf (record { columns = 0; lines = 0; width = 0; dual = false }) [])) from (pairsFrom log from total) (standingOn s₀ [] 0 from)) s [] 0 i
-  some = g .goes (record { columns = 0; lines = 0; width = 0; dual = false }) true [] [] 0 (omega arith)
-
-  pub bringing-memory : length (s .machine .memory) ≡ 65536
-  bringing-memory = some .goes-on .sound .sound .memory
-
-  pub bringing-room : length (s .answers) ≡ length (s₀ .answers)
-  bringing-room = some .goes-on .room
-
-  pub brings : {b : Brought} → b ≡ record { registers = s .machine .registers; given = s .given; at = i }
-      → Brings log total (s₀ .machine .registers) (s₀ .machine .memory) (s₀ .answers) (s₀ .given) from b (s .machine .memory) (s .answers)
-  brings e =
-      subst (λ (b : Brought). Brings log total (s₀ .machine .registers) (s₀ .machine .memory) (s₀ .answers) (s₀ .given) from b (s .machine .memory) (s .answers)) (sym e)
-      (record {
-        reaches = g .reaches;
-        inside = some .goes-on .inside;
-        state = sounds-valid (some .goes-on .sound .sound);
-        memory = bringing-memory;
-        long = bringing-room;
-        left = λ p on rom skips listed l. g .goes p on rom skips listed l .goes-on .left;
-      })
+      pub going-draws : {drawn : Drawn} → Draws d (eqb (getD log (2 * i) 0) 1 && off) (getD log (2 * i + 1) 0) drawn → drawn .done ≡ true → {next : Bus} → next ≡ withPending b none
+          → Running p on rom log total s₀ (standing (record { display = drawn .display; bus = next }) m a n) skips listed (i + 1)
+      going-draws {drawn} k t f =
+          running-done g h l 1 (eqb-true (getD log (2 * i) 0) 1 (both-left (eqb (getD log (2 * i) 0) 1) off (k .quiet t)))
+          (k .acts t b (sym e ∙ both-right (eqb (getD log (2 * i) 0) 1) off (k .quiet t)) p rom m ∙ (λ t. done (machine (record { display = drawn .display; bus = sym f t }) m)))

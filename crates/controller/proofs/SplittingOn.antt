@@ -1,8 +1,8 @@
 -- Two ordinary runs equal one, the list lent on like the answers; where nothing is refused the run that stops is the ordinary one.
-use mathlib.Core.Path.{_≡_, refl, ap, sym, subst, _∙_}
+use mathlib.Core.Path.{_≡_, refl, ap, sym, _∙_}
 use mathlib.Core.Bool.{Bool, true, false, cond, _&&_}
-use mathlib.Core.List.{List, [], _∷_, _++_}
-use Prim.Native.Nat.{ℕ, suc, _+_, _*_, _/_, _%_, _≤_}
+use mathlib.Core.List.{List, _++_}
+use Prim.Native.Nat.{ℕ, suc, _+_, _*_, _/_, _%_}
 use native.Mathlib.Omega.{arith}
 use lib.Dec.{eqb}
 use lib.ListN.{length, take, drop, length-take, length-drop, take-append-drop}
@@ -14,7 +14,7 @@ use Rattle.display.specs.Frame.{lentLengths}
 use Rattle.controller.specs.Types.{Panel, Registers}
 use Rattle.controller.specs.Access.{Pair, Step, stepOf}
 use Rattle.effects.specs.Machine.{Machine, machine}
-use Rattle.controller.specs.Run.{pairsOf, Standing, Run, runFrom, endNumber, RanAll, ranOf, stoppingOf}
+use Rattle.controller.specs.Run.{pairsOf, Standing, Run, runFrom, endNumber, RanAll, ranOf}
 use Rattle.controller.specs.Skip.{Skipping, skipStep, begunOn, RanOnAll, ranOnOf, ranOnNone, eitherRun, runOf, later}
 use Rattle.controller.specs.Split.{continued}
 use Rattle.controller.specs.SplitOn.{continuedOn, secondRunOn, SplitOn, Agree}
@@ -22,7 +22,7 @@ use Rattle.controller.specs.Ready.{standing}
 use Rattle.controller.proofs.Laws.{Sounds, sounds, sounds-valid}
 use Rattle.controller.proofs.Goings.{Ends, Kept, run-kept}
 use Rattle.controller.proofs.Pairwise.{SoundOn, skip-sound, skip-proper}
-use Rattle.controller.proofs.Splits.{ended, run-append, shifted, run-shift, behind, behindRun, run-behind, projected, projectedRun}
+use Rattle.controller.proofs.Splits.{run-append, shifted, run-shift, behind, behindRun, run-behind, projected, projectedRun}
 use Rattle.controller.proofs.Skips.{skip-agrees, run-place, later-on, skip-shift, behind-list, skip-behind}
 use Rattle.controller.proofs.Splitting.{running-kept, pairs-drop, whole-by-number, went-on, inside, door}
 

@@ -2,15 +2,14 @@
 use mathlib.Core.Path.{_≡_}
 use mathlib.Core.Bool.{Bool, true, cond}
 use mathlib.Core.List.{List}
-use Prim.Native.Nat.{ℕ, _*_, _≤_}
-use lib.ListN.{length}
+use Prim.Native.Nat.{ℕ}
 use Rattle.state.specs.State.{validPanel, validRegisters}
 use Rattle.display.specs.Frame.{lentLengths}
-use Rattle.controller.specs.Types.{Panel, Registers, Turned, Brought}
-use Rattle.controller.specs.Access.{Accessed, stepOf}
+use Rattle.controller.specs.Types.{Panel, Registers, Turned}
+use Rattle.controller.specs.Access.{Accessed}
 use Rattle.effects.specs.Machine.{Machine, machine}
-use Rattle.controller.specs.Run.{Standing, Turn, went, halted, runFrom}
-use Rattle.controller.specs.Skip.{Skipping, skipStep}
+use Rattle.controller.specs.Run.{Standing, Turn, went, halted}
+use Rattle.controller.specs.Skip.{Skipping}
 pub use Rattle.turns.specs.Turned.{takenOf, AnsweredAll, answeredAll, answeredOf}
 pub use Rattle.turns.specs.Blocked.{pairsFrom, Blocked}
 unfoldable pub use Rattle.turns.specs.Blocked.{dataOf}
@@ -52,15 +51,3 @@ turnedOf s (went t) =
     turnedAll (record { number = 0; registers = t .machine .registers; given = t .given }) (t .machine .memory) (t .answers)
 turnedOf s (halted n) =
     turnedAll (record { number = n; registers = s .machine .registers; given = s .given }) (s .machine .memory) (s .answers)
-
--- some pairs of a run, done one by one: behind them the rest comes to what it came to before them, whatever the panel, the ROM, the list
--- of skipped pairs and the run
-pub record Brings (log : List ℕ) (total : ℕ) (r : Registers) (mem answers : List ℕ) (given from : ℕ) (b : Brought) (after room : List ℕ) : Type 0 where
-  pub reaches : from ≤ b .at
-  pub inside : b .at ≤ total
-  pub state : validRegisters (b .registers) ≡ true
-  pub memory : length after ≡ 65536
-  pub long : length room ≡ length answers
-  pub left : (p : Panel) (on : Bool) (rom skips : List ℕ) (listed : ℕ) → 2 * listed ≤ length skips
-      → runFrom (skipStep on (stepOf p rom)) (b .at) (pairsFrom log (b .at) total) (standingOn (standing (b .registers) after room (b .given)) skips listed (b .at))
-      ≡ runFrom (skipStep on (stepOf p rom)) from (pairsFrom log from total) (standingOn (standing r mem answers given) skips listed from)

@@ -21,11 +21,10 @@ pub use Rattle.codes.specs.declared.decode.Decoded.the-variants.{Defined, Undef
 pub use Rattle.sight.specs.declared.position.Position.{Position}
 pub use Rattle.sight.specs.declared.position.Position.the-variants.{At, Nowhere}
 pub use Rattle.state.specs.declared.reply.Acted.{Acted}
-pub use Rattle.controller.specs.declared.pairs.Brought.{Brought}
 pub use Rattle.controller.specs.declared.run.Ran.{Ran}
 pub use Rattle.controller.specs.declared.run.RanOn.{RanOn}
 pub use Rattle.turns.specs.declared.note.Noted.{Noted}
 pub use Rattle.turns.specs.declared.turn.Turned.{Turned}
 pub use Rattle.usual.specs.declared.tell.Told.{Told}
-pub use Rattle.usual.specs.declared.alone.Altered.{Altered}
+pub use Rattle.usual.specs.declared.draw.Drawn.{Drawn}
 pub use Rattle.usual.specs.declared.ask.Asked.{Asked}

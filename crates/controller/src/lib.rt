@@ -1,4 +1,3 @@
 // The run of a log.
-mod pairs;
 pub mod run;
 mod turn;

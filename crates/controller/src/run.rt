@@ -6,12 +6,22 @@ ghost use Rattle.controller.specs.Access.{stepOf};
 ghost use Rattle.controller.specs.Run.{runFrom, ranAll, stoppingOf, pairsOf};
 ghost use Rattle.controller.specs.Skip.{skipStep, begunOn, ranOnAll, ranOnOf, eitherRun, runOf};
 ghost use Rattle.controller.specs.Ready.{Runs};
-use super::pairs::usual_pairs;
 use super::turn::turn;
+use codes::command::is_off;
+use effects::effect::is_write;
 use ground::bytes::lesser;
 use state::panel::Panel;
 use state::registers::Registers;
+use turns::block::block;
+use turns::block::passed;
 use turns::note::note;
+use usual::ask::ask;
+use usual::draw::draw;
+use usual::part::datum;
+use usual::part::emptied;
+use usual::part::freed;
+use usual::part::ticked;
+use usual::tell::tell;
 
 // A number and place, the pairs taken, the answers written, the registers after.
 pub struct Ran {
@@ -67,30 +77,80 @@ fn pairs(
     requires { ⌜ 2 * total ≤ length (now log) ⌝ }
     ensures { λ r. ⌜ ranOnAll r (now (mem .exit)) (now (answers .exit)) (now (skips .exit)) ≡ ranOnOf (runFrom (skipStep skipping (stepOf panel (now (rom .entry)))) 0 (take total (pairsOf (now (log .entry)))) (begunOn registers (now (mem .entry)) (now (answers .entry)) (now (skips .entry)))) ⌝ }
 {
-    let mut state = registers;
+    let mut display = registers.display;
+    let mut bus = registers.bus;
     let mut given: usize = 0;
     let mut listed: usize = 0;
     let mut i: usize = 0;
     while i < total {
-        let brought = usual_pairs(state, mem, log, i, total, answers, given);
-        state = brought.registers;
-        given = brought.given;
-        i = brought.at;
-        if i < total {
-            let kind = log[2 * i];
-            let byte = log[2 * i + 1];
-            let turned = turn(panel, state, mem, rom, answers, given, kind, byte);
-            state = turned.registers;
-            given = turned.given;
-            let noted = note(skipping, turned.number, i, skips, listed);
-            listed = noted.listed;
-            if noted.number != 0 {
-                return ended(noted.number, i, i, given, state, listed);
-            }
-            i += 1;
+        let kind = log[2 * i];
+        let byte = log[2 * i + 1];
+        let auto = bus.auto;
+        if (kind == 0) & is_write(auto) {
+            let end = block(mem, bus.pointer, log, i, total);
+            bus = passed(bus, end - i);
+            i = end;
+            continue;
         }
+        let off = is_off(auto);
+        if (kind == 0) & off {
+            bus = datum(bus, byte);
+            i += 1;
+            continue;
+        }
+        let quiet = (kind == 1) & off;
+        let told = tell(bus, mem, quiet, byte);
+        if told.done {
+            bus = told.bus;
+            i += 1;
+            continue;
+        }
+        let drawn = draw(display, quiet, byte);
+        if drawn.done {
+            display = drawn.display;
+            bus = emptied(bus);
+            i += 1;
+            continue;
+        }
+        if (kind == 1) & (byte == 0xb2) {
+            bus = freed(bus);
+            i += 1;
+            continue;
+        }
+        let asked = ask(display.phase, bus, mem, answers, given, kind);
+        if asked.done {
+            bus = asked.bus;
+            given = asked.given;
+            i += 1;
+            continue;
+        }
+        if kind == 4 {
+            display = ticked(display);
+            i += 1;
+            continue;
+        }
+        let turned = turn(
+            panel,
+            Registers { display, bus },
+            mem,
+            rom,
+            answers,
+            given,
+            kind,
+            byte,
+        );
+        display = turned.registers.display;
+        bus = turned.registers.bus;
+        given = turned.given;
+        let noted = note(skipping, turned.number, i, skips, listed);
+        let number = noted.number;
+        listed = noted.listed;
+        if number != 0 {
+            return ended(number, i, i, given, Registers { display, bus }, listed);
+        }
+        i += 1;
     }
-    ended(0, 0, i, given, state, listed)
+    ended(0, 0, i, given, Registers { display, bus }, listed)
 }
 
 // At most `limit` pairs of a log: the tests at the door, then pair after pair.

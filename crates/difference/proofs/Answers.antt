@@ -1,14 +1,12 @@
 -- What is written between two screens that are there, and how long it is.
-use mathlib.Core.Path.{_≡_, refl, ap, sym, _∙_}
+use mathlib.Core.Path.{_≡_, refl, ap, _∙_}
 use mathlib.Core.Bool.{Bool, true, cond}
 use mathlib.Core.List.{List, [], _∷_}
 use Prim.Native.Nat.{ℕ, _+_, _*_, _≤_}
 use native.Mathlib.Omega.{arith}
-use lib.Dec.{ltb}
 use lib.ListN.{length, length-append}
 use lib.Seq.{sets}
 use borrow.Author.Tests.{le-ltb, eq-eqb}
-use lib.Dec.{eqb}
 use Rattle.ground.proofs.Tests.{settled}
 use Rattle.state.specs.declared.panel.Panel.{Panel}
 use Rattle.state.specs.State.{validPanel}
@@ -17,14 +15,14 @@ use Rattle.contents.specs.declared.ask.Asked.{Asked}
 use Rattle.contents.specs.declared.ask.Asked.the-variants.{Body, Refused}
 use Rattle.contents.specs.Asked.{askedOf}
 use Rattle.book.specs.Operation.{Operation}
-use Rattle.book.specs.Screen.{Screen, screen, screenIn, screenOf}
+use Rattle.book.specs.Screen.{screen, screenIn, screenOf}
 use Rattle.writer.specs.declared.written.Written.{Written}
-use Rattle.writer.specs.Stream.{operationPairs, graphicHome, textHome, glyphHome}
+use Rattle.writer.specs.Stream.{operationPairs}
 use Rattle.writer.specs.Written.{Wrote, wroteAll, wrote}
 use Rattle.picture.specs.declared.cursor.Laid.{Laid}
 use Rattle.picture.specs.declared.cursor.Laid.the-variants.{Nowhere, Over}
 use Rattle.picture.specs.Picture.{Picture, pictureOf}
-use Rattle.difference.specs.Short.{changesFrom, endPairs, shortOver, shortStream, changeCount, endCount, countOver, shortCount}
+use Rattle.difference.specs.Short.{endPairs, shortOver, shortStream, changeCount, endCount, countOver, shortCount}
 use Rattle.difference.specs.Change.{writeShort, changeScreens, unlessAsked, changeOf}
 use Rattle.difference.proofs.Comparing.{changes-length}
 

@@ -2,9 +2,8 @@
 use mathlib.Core.Path.{_≡_, subst, sym}
 use mathlib.Core.Bool.{Bool}
 use mathlib.Core.List.{List, [], _∷_}
-use Prim.Native.Nat.{ℕ, _+_, _*_, _≤_}
+use Prim.Native.Nat.{ℕ, _≤_}
 use native.Mathlib.Omega.{arith}
-use lib.ListN.{length}
 use Rattle.state.specs.declared.panel.Panel.{Panel}
 use Rattle.state.specs.declared.registers.Combination.{Combination}
 use Rattle.state.specs.declared.registers.Cursor.{Cursor}
@@ -16,7 +15,7 @@ use Rattle.writer.proofs.Puts.{put-both, put-as, put-length}
 use Rattle.picture.specs.declared.cursor.Laid.{Laid}
 use Rattle.picture.specs.declared.cursor.Laid.the-variants.{Nowhere, Over}
 use Rattle.difference.specs.Short.{endPairs, endCount}
-use Rattle.difference.specs.Differing.{LaidRange, Ending}
+use Rattle.difference.specs.Differing.{Ending}
 
 pub end-few : (laid : Laid) → (2 ≤ endCount laid) × (endCount laid ≤ 6)
 end-few Nowhere = (omega arith, omega arith)

@@ -1,12 +1,11 @@
 -- The two screens: what their planes answered, and what is answered then.
 use mathlib.Core.Path.{_≡_, refl, ap, sym, subst, _∙_}
-use mathlib.Core.Bool.{Bool, true, false, cond, not, _&&_}
-use mathlib.Core.List.{List, [], _∷_}
+use mathlib.Core.Bool.{Bool, true, false, cond, not}
+use mathlib.Core.List.{List}
 use mathlib.Core.Logic.{⊎-elim}
-use Prim.Native.Nat.{ℕ, _+_, _-_, _*_, _≤_}
+use Prim.Native.Nat.{ℕ, _-_, _*_, _≤_}
 use native.Mathlib.Nat.{mul-assoc}
 use native.Mathlib.Omega.{arith}
-use lib.Dec.{eqb}
 use lib.ListN.{length, take, replicate, length-replicate}
 use lib.Seq.{length-take-le}
 use borrow.Author.Tests.{eq-eqb, not-true, not-false}
@@ -27,9 +26,7 @@ use Rattle.book.specs.Operation.{Operation, operationOf}
 use Rattle.book.specs.Range.{InRange}
 use Rattle.book.specs.Screen.{Screen, screen, refused, screenIn, screenOf}
 use Rattle.book.proofs.Walking.{walk-all, walk-number}
-use Rattle.writer.specs.declared.written.Written.{Written}
-use Rattle.writer.specs.Written.{Wrote, wroteAll, wrote}
-use Rattle.picture.specs.declared.cursor.Laid.{Laid}
+use Rattle.writer.specs.Written.{Wrote, wrote}
 use Rattle.picture.specs.declared.plan.Planned.{Planned}
 use Rattle.picture.specs.Picture.{Picture, blank, applied, appliedAll, pictureOf}
 use Rattle.picture.specs.Planned.{Plan, plannedAll, refusedPlan, planScreen, areasFit, planesOf}

@@ -13,7 +13,7 @@ use Rattle.state.specs.State.{validPanel, validDisplay}
 use Rattle.display.specs.Types.{Panel, Display, Reply}
 use Rattle.display.specs.Frame.{lentLengths, replyOf}
 use Rattle.display.specs.Drawable.{Drawable}
-use Rattle.display.specs.Layers.{layersAt, Stretch, stretch, layersFrom, alike, rowLayersOf}
+use Rattle.display.specs.Layers.{layersAt, stretch, layersFrom, alike, rowLayersOf}
 use Rattle.display.proofs.Doors.{drawable, turned-away}
 
 module _ (p : Panel) (d : Display) (mem rom : List ℕ) (r c : ℕ) (text graphic shown : List ℕ) {a b : Bool} (i : a ≡ validPanel p) (j : b ≡ validDisplay d) where

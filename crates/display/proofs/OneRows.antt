@@ -7,7 +7,7 @@ use native.Mathlib.Omega.{arith}
 use lib.Dec.{eqb}
 use lib.ListN.{length, getD}
 use borrow.Author.Tests.{eqb-true, eq-eqb}
-use Rattle.ground.specs.Packing.{packed, dotAt, rowBytes, rowFrom}
+use Rattle.ground.specs.Packing.{packed, dotAt, rowFrom}
 use Rattle.ground.proofs.Lists.{build-at}
 use Rattle.ground.proofs.Packing.{packed-bit, dot-lt}
 use Rattle.ground.proofs.Packing as packing

@@ -1,5 +1,5 @@
 -- 01, Panel and memory, and Numbers returned: the frame, and what painting it answers.
-use Prim.Native.Nat.{ℕ, _*_}
+use Prim.Native.Nat.{ℕ}
 use mathlib.Core.List.{List}
 use mathlib.Core.Bool.{Bool, cond, _&&_}
 use lib.Dec.{eqb}

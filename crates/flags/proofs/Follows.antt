@@ -1,9 +1,9 @@
 -- A pair followed: by the memory after alone, since where a text code changes its line is flagged already.
-use mathlib.Core.Path.{_≡_, refl, ap, sym, subst, _∙_}
+use mathlib.Core.Path.{_≡_, refl, ap, sym, _∙_}
 use mathlib.Core.Bool.{Bool, true, false, cond, not, _&&_, _||_, true≢false}
 use mathlib.Core.Logic.{⊎-elim}
 use mathlib.Core.List.{List}
-use Prim.Native.Nat.{ℕ, _+_, _*_, _/_, _%_, _<_, _≤_}
+use Prim.Native.Nat.{ℕ, _*_, _/_, _%_, _<_, _≤_}
 use native.Mathlib.Omega.{arith}
 use lib.Dec.{eqb}
 use lib.ListN.{length, getD}
@@ -15,18 +15,18 @@ use Rattle.state.proofs.Valid.{panelled}
 use Rattle.display.specs.Displayed.{addressOf, textCode}
 use Rattle.display.specs.Frame.{lentLengths}
 use Rattle.effects.specs.Machine.{Machine, machine}
-use Rattle.controller.specs.Access.{Pair, Step, done, answered, refused, stepOf, Accessed, replied, accessed, actedOf, accessOf}
+use Rattle.controller.specs.Access.{Pair, Step, done, answered, refused, stepOf, replied, accessed, actedOf, accessOf}
 use Rattle.stores.specs.Stores.{storesOf, storesAsked, fromAddress}
 use Rattle.controller.proofs.Goings.{Leaves}
 use Rattle.stores.proofs.Stored.{Stored, step-stores}
 use Rattle.controller.proofs.Turns.{step-number}
 use Rattle.flags.specs.Types.{Panel, Display, Registers, Acted}
 use Rattle.touch.specs.Touch.{anyOf, inRow, glyphByteAt, glyphAt, planeRow, touches, touchedBy, touched}
-use Rattle.touch.specs.Marked.{flagsFit, setWhere, markedOf, marksOf}
+use Rattle.touch.specs.Marked.{flagsFit, markedOf, marksOf}
 use Rattle.flags.specs.Flags.{sameDisplay, flagsAfter, withFlags, flagStep, flagBy}
 use Rattle.flags.specs.Follow.{Followed, followed, followedBy, followedOf, followOf}
 use Rattle.flags.specs.Ready.{Following}
-use Rattle.touch.proofs.Anys.{alike, or-left, or-right, any-found, any-has, any-none}
+use Rattle.touch.proofs.Anys.{alike, or-left, or-right, any-found, any-has}
 
 module _ (p : Panel) (d : Display) (mem memory : List ℕ) (at n r : ℕ) (k : Stored at n mem memory) where
   -- a stored address is a text byte of the row's line, or its codes are as they were

@@ -1,5 +1,5 @@
 -- A refresh: the flagged rows painted one by one, the others' stretches as they were.
-use mathlib.Core.Path.{_≡_, refl, ap, sym, subst, _∙_}
+use mathlib.Core.Path.{_≡_, refl, ap, sym, _∙_}
 use mathlib.Core.Bool.{Bool, true, false, cond, _&&_}
 use mathlib.Core.List.{List, _++_}
 use Prim.Native.Nat.{ℕ, suc, _+_, _-_, _*_, _<_, _≤_}
@@ -11,7 +11,7 @@ use lib.Seq.{drop-at}
 use borrow.Author.Tests.{ltb-true, lt-ltb, eq-eqb, ne-eqb, eqb-true}
 use Rattle.ground.specs.Lists.{joined}
 use Rattle.ground.proofs.Lists.{joined-length, joined-cong}
-use Rattle.ground.proofs.Rows.{Rowed, started, stretch, stretch-length, back, whole}
+use Rattle.ground.proofs.Rows.{Rowed, started, back, whole}
 use Rattle.ground.proofs.Tests.{both-left, both-right}
 use Rattle.state.specs.State.{validPanel, validDisplay, validBus, validRegisters}
 use Rattle.state.specs.Sizes.{rowSize, frameSize, validSize}

@@ -1,15 +1,14 @@
 -- The claims: what is flagged, followed and refreshed leaves the frame right.
 use mathlib.Core.Path.{_≡_, refl, ap, sym, subst, _∙_}
-use mathlib.Core.Bool.{Bool, true, false, cond, not, _&&_, _||_, true≢false, false≢true}
-use mathlib.Core.Logic.{_⊎_, inl, inr, ⊎-elim}
-use mathlib.Core.List.{List, [], _∷_}
-use Prim.Native.Nat.{ℕ, zero, suc, _+_, _-_, _*_, _/_, _%_, _^_, _<_, _≤_}
+use mathlib.Core.Bool.{Bool, true, false, cond, not, _&&_, _||_, false≢true}
+use mathlib.Core.Logic.{_⊎_, ⊎-elim}
+use mathlib.Core.List.{List}
+use Prim.Native.Nat.{ℕ, _+_, _-_, _*_, _/_, _%_, _^_, _<_}
 use native.Mathlib.Omega.{arith}
-use lib.Dec.{ltb, eqb}
-use lib.ListN.{length, getD, take, drop, set}
-use lib.Seq.{sets}
+use lib.Dec.{eqb}
+use lib.ListN.{length, getD, take, drop}
 use borrow.Author.Tests.{eqb-true, eq-eqb, lt-ltb, not-false}
-use Rattle.ground.specs.Lists.{build, joined}
+use Rattle.ground.specs.Lists.{joined}
 use Rattle.ground.specs.Packing.{rowFrom, frameFrom}
 use Rattle.ground.proofs.Lists.{build-at, joined-cong, joined-stretch}
 use Rattle.ground.proofs.Packing.{row-cong}
@@ -17,9 +16,8 @@ use Rattle.ground.proofs.Conjuncts.{neither}
 use Rattle.ground.proofs.Tests.{both, both-left, both-right}
 use Rattle.state.specs.State.{validPanel, validRegisters}
 use Rattle.state.specs.Sizes.{rowSize}
-use Rattle.state.specs.Combination.{isAttribute}
 use Rattle.state.proofs.Valid.{panelled}
-use Rattle.display.specs.Displayed.{addressOf, textCode, graphicByte, attributeByte, displayedByte, cellByte, cursorLit, cursorCovers}
+use Rattle.display.specs.Displayed.{addressOf, textCode, graphicByte, attributeByte, cellByte, cursorLit, cursorCovers}
 use Rattle.display.specs.Layers.{Layers, fromMemory, SameBytes}
 use Rattle.display.specs.Frame.{rowOf, frameOf, lentLengths, frameFits, replyOf}
 use Rattle.display.proofs.Same.{layers-same}
@@ -29,10 +27,10 @@ use Rattle.stores.specs.Stores.{storesOf, fromAddress}
 use Rattle.controller.proofs.Goings.{Leaves}
 use Rattle.stores.proofs.Stored.{Stored, step-stores}
 use Rattle.touch.specs.Marked.{flagsFit}
-use Rattle.flags.specs.Types.{Panel, Plane, Cursor, DisplayBits, Combination, Or, Exor, And, Attribute, Display, Registers}
+use Rattle.flags.specs.Types.{Panel, Plane, Cursor, DisplayBits, Combination, Or, Exor, And, Attribute, Display}
 use Rattle.touch.specs.Touch.{anyOf, inRow, glyphByteAt, glyphAt, planeRow, touches, touchedBy, touched}
-use Rattle.flags.specs.Flags.{allSet, allClear, sameFlag, samePlane, sameCursor, sameBits, modeNumber, sameDisplay, flagsAfter, Flagged, withFlags, flagBy, flagStep}
-use Rattle.flags.specs.Follow.{Followed, followedBy, followedOf, followOf, Refreshed, refreshed, stretchOf, refreshedRow, refreshOf}
+use Rattle.flags.specs.Flags.{allClear, sameFlag, samePlane, sameCursor, sameBits, modeNumber, sameDisplay, flagsAfter, Flagged, withFlags, flagBy, flagStep}
+use Rattle.flags.specs.Follow.{Followed, followedBy, followedOf, followOf, refreshed, stretchOf, refreshedRow, refreshOf}
 use Rattle.flags.specs.Claims.{Right, StartRight, FollowRight, RefreshRight}
 use Rattle.touch.proofs.Anys.{or-left, or-right, any-has, any-not}
 use Rattle.flags.proofs.Refreshes.{rowIn, sized}

@@ -1,5 +1,5 @@
 -- 02, Req 05: a flag for each dot row beside the memory, 0 where it is clear, and what a pair makes of them.
-use Prim.Native.Nat.{ℕ, _*_}
+use Prim.Native.Nat.{ℕ}
 use mathlib.Core.Bool.{Bool, not, _&&_, _||_}
 use mathlib.Core.List.{List}
 use lib.Dec.{eqb}
@@ -7,7 +7,7 @@ use Rattle.ground.specs.Lists.{build}
 use Rattle.effects.specs.Machine.{Machine, display, pointer}
 use Rattle.controller.specs.Access.{Pair, Step, done, answered, refused, stepOf}
 use Rattle.stores.specs.Stores.{storesOf}
-use Rattle.flags.specs.Types.{Panel, Plane, Cursor, DisplayBits, Combination, Or, Exor, And, Attribute, Display, Registers}
+use Rattle.flags.specs.Types.{Panel, Plane, Cursor, DisplayBits, Combination, Or, Exor, And, Attribute, Display}
 use Rattle.touch.specs.Touch.{touched}
 use Rattle.touch.specs.Marked.{setWhere}
 

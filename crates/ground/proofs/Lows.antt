@@ -1,5 +1,5 @@
 -- All dots of a cell of six or eight.
-use mathlib.Core.Path.{_≡_, ap}
+use mathlib.Core.Path.{_≡_}
 use mathlib.Core.Logic.{_⊎_, ⊎-elim}
 use Prim.Native.Nat.{ℕ, _-_, _^_}
 use Rattle.ground.specs.Bytes.{fullOf}

@@ -10,7 +10,7 @@ use borrow.Author.Tests.{eqb-true, eq-eqb, ne-eqb}
 use Rattle.ground.proofs.Tests.{both-left}
 use Rattle.state.specs.State.{validPanel, validRegisters, resetRegisters}
 use Rattle.image.specs.Types.{Panel, Registers, Entry, State, Refused}
-use Rattle.image.specs.Image.{bytesOf, replaced, readable, stateOf, isImage, imageState}
+use Rattle.image.specs.Image.{replaced, readable, stateOf, isImage, imageState}
 use Rattle.image.specs.Door.{doorOf, closes, writtenOf}
 use Rattle.image.proofs.Images.{replaced-same, replaced-other, is-image, image-state}
 

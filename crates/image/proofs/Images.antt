@@ -26,6 +26,26 @@ pub bytes-length : (r : Registers) → length (bytesOf r) ≡ 25
 unfolding bytesOf
 bytes-length r = refl
 
+-- the bytes that the code works out, each what it stands for
+pub bytes-are : (r : Registers) {combination external graphic text cursor blink auto error phase : ℕ}
+    → combination ≡ combinationByte (r .display .combination) → external ≡ flagByte (r .display .external)
+    → graphic ≡ flagByte (r .display .bits .graphic) → text ≡ flagByte (r .display .bits .text)
+    → cursor ≡ flagByte (r .display .bits .cursor) → blink ≡ flagByte (r .display .bits .blink)
+    → auto ≡ autoByte (r .bus .auto) → error ≡ flagByte (r .bus .error) → phase ≡ flagByte (r .display .phase)
+    → (r .display .cursor .x ∷ r .display .cursor .y ∷ r .display .offset ∷ r .bus .pointer % 256 ∷ r .bus .pointer / 256
+    ∷ r .display .text .home % 256 ∷ r .display .text .home / 256 ∷ r .display .graphic .home % 256 ∷ r .display .graphic .home / 256
+    ∷ r .display .text .area ∷ r .display .graphic .area ∷ combination ∷ external ∷ graphic ∷ text ∷ cursor ∷ blink
+    ∷ r .display .cursor .height ∷ auto ∷ r .bus .pending .count ∷ r .bus .pending .older ∷ r .bus .pending .newest
+    ∷ r .bus .latch ∷ error ∷ phase ∷ [])
+    ≡ bytesOf r
+unfolding bytesOf
+bytes-are r a b c d e f g h i =
+    λ t. r .display .cursor .x ∷ r .display .cursor .y ∷ r .display .offset ∷ r .bus .pointer % 256 ∷ r .bus .pointer / 256
+    ∷ r .display .text .home % 256 ∷ r .display .text .home / 256 ∷ r .display .graphic .home % 256 ∷ r .display .graphic .home / 256
+    ∷ r .display .text .area ∷ r .display .graphic .area ∷ a t ∷ b t ∷ c t ∷ d t ∷ e t ∷ f t
+    ∷ r .display .cursor .height ∷ g t ∷ r .bus .pending .count ∷ r .bus .pending .older ∷ r .bus .pending .newest
+    ∷ r .bus .latch ∷ h t ∷ i t ∷ []
+
 -- a buffer of the length gets the contents, another stays
 pub replaced-same : (new old : List ℕ) → length old ≡ length new → new ≡ replaced new old
 replaced-same new old e = sym (ap (λ (t : Bool). cond t new old) (eq-eqb (length old) (length new) e))

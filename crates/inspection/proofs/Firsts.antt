@@ -2,10 +2,10 @@
 use mathlib.Core.Path.{_≡_, refl, ap, sym, subst, _∙_}
 use mathlib.Core.Bool.{Bool, true, false, cond, not, _&&_, _||_}
 use mathlib.Core.List.{List, [], _∷_, _++_}
-use Prim.Native.Nat.{ℕ, zero, suc, _+_, _*_, _/_, _%_, _<_, _≤_}
+use Prim.Native.Nat.{ℕ, zero, suc, _+_, _/_, _%_, _<_, _≤_}
 use native.Mathlib.Decide.{ℕ-discrete}
 use native.Mathlib.Omega.{arith}
-use lib.Dec.{ltb, eqb}
+use lib.Dec.{eqb}
 use lib.ListN.{length, getD, set, take, drop, length-set, take-append-drop}
 use lib.Seq.{take-all, take-suc, getD-drop, getD-take, getD-set-same, getD-set-other}
 use borrow.Author.Tests.{lt-ltb, eqb-true, eqb-false}
@@ -14,14 +14,14 @@ use Rattle.state.specs.declared.registers.Auto.{Auto}
 use Rattle.display.specs.Frame.{lentLengths}
 use Rattle.effects.specs.Machine.{Machine, machine, bus}
 use Rattle.controller.specs.Access.{Pair, Step, done, answered, refused, stepOf}
-use Rattle.controller.specs.Run.{pairsOf, Standing, Turn, went, halted, turnOf, End, whole, short, Run, afterTurn, runFrom, RanAll, ranOf, ranNone, stoppingOf}
+use Rattle.controller.specs.Run.{pairsOf, Standing, went, halted, turnOf, End, whole, short, Run, afterTurn, runFrom, RanAll, ranOf, ranNone, stoppingOf}
 use Rattle.controller.proofs.Blocks.{pairAt, pair-next}
 use Rattle.controller.proofs.Runs.{pairs-length}
 use Rattle.controller.proofs.Splits.{ended, run-append}
 use Rattle.inspection.specs.Types.{Panel, Registers, Named, At, Nothing, Looked, Inspected}
 use Rattle.inspection.specs.Look.{readyFor, needsAsking, firstNamed, lookAnswered, unseen, Watched, lookAt, watchBy, watchStep}
 use Rattle.inspection.specs.Inspected.{inspectedAll, unnamed, isNothing, named, inspectedBy, inspectedOf, begunWatch, inspectOf}
-use Rattle.inspection.specs.Claims.{ownRun, ownAnswers}
+use Rattle.inspection.specs.Claims.{ownAnswers}
 use Rattle.inspection.specs.First.{FirstOf, accessAt, readyAt, Preceded, Unasked, Differs, NamesFirst}
 use Rattle.inspection.proofs.Owns.{over, along-log}
 

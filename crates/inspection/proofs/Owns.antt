@@ -2,10 +2,9 @@
 use mathlib.Core.Path.{_≡_, refl, ap, sym, subst, _∙_}
 use mathlib.Core.Bool.{Bool, true, false, cond, not, _&&_}
 use mathlib.Core.List.{List, [], _∷_}
-use Prim.Native.Nat.{ℕ, suc, _+_, _*_, _/_, _%_, _<_, _≤_}
-use native.Mathlib.Decide.{ℕ-discrete}
+use Prim.Native.Nat.{ℕ, suc, _+_, _/_, _%_, _<_, _≤_}
 use native.Mathlib.Omega.{arith}
-use lib.Dec.{ltb, eqb}
+use lib.Dec.{eqb}
 use lib.Bits.{bitOr}
 use lib.ListN.{length, getD, set, take, length-set}
 use lib.Seq.{take-all, length-take-le, getD-take, getD-set-same, getD-set-other}
@@ -17,13 +16,13 @@ use Rattle.display.specs.Frame.{lentLengths}
 use Rattle.effects.specs.Machine.{Machine, machine, bus}
 use Rattle.effects.specs.Effect.{autoBits, statusOf}
 use Rattle.controller.specs.Access.{Pair, Step, done, answered, refused, stepOf}
-use Rattle.controller.specs.Run.{pairsOf, Standing, Turn, went, halted, turnOf, End, whole, short, Run, afterTurn, runFrom, RanAll, ranOf, ranNone, stoppingOf}
+use Rattle.controller.specs.Run.{pairsOf, Standing, went, halted, turnOf, End, whole, short, Run, afterTurn, runFrom, RanAll, ranOf, ranNone, stoppingOf}
 use Rattle.controller.proofs.Runs.{pairs-length}
 use Rattle.controller.proofs.Turns.{step-number}
-use Rattle.inspection.specs.Types.{Panel, Registers, Named, Nothing, Looked, Inspected}
-use Rattle.inspection.specs.Look.{readyFor, firstNamed, lookAsked, lookAnswered, unseen, Watched, lookAt, watchBy, watchStep}
-use Rattle.inspection.specs.Inspected.{InspectedAll, inspectedAll, unnamed, named, inspectedBy, inspectedOf, begunWatch, inspectOf}
-use Rattle.inspection.specs.Claims.{ownRun, ownAnswers, Inspects, OwnRight}
+use Rattle.inspection.specs.Types.{Panel, Registers, Nothing, Looked, Inspected}
+use Rattle.inspection.specs.Look.{readyFor, firstNamed, lookAnswered, unseen, Watched, lookAt, watchBy, watchStep}
+use Rattle.inspection.specs.Inspected.{InspectedAll, inspectedAll, unnamed, inspectedOf, begunWatch, inspectOf}
+use Rattle.inspection.specs.Claims.{ownAnswers, Inspects, OwnRight}
 
 -- the watched machine over a run's
 abbrev pub over : Standing Machine → Looked → ℕ → Standing Watched

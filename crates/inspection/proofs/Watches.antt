@@ -1,11 +1,11 @@
 -- An inspection pair by pair, and its door.
 use mathlib.Core.Path.{_≡_, refl, ap, sym, subst, _∙_}
-use mathlib.Core.Bool.{Bool, true, false, cond, not, _&&_, _||_}
+use mathlib.Core.Bool.{Bool, true, false, cond, _&&_, _||_}
 use mathlib.Core.List.{List, []}
 use Prim.Native.Nat.{ℕ, suc, _+_, _*_, _/_, _%_, _<_, _≤_}
 use native.Mathlib.Omega.{arith}
 use lib.Dec.{eqb}
-use lib.ListN.{length, getD, take}
+use lib.ListN.{length, getD}
 use lib.Seq.{take-all}
 use borrow.Author.Tests.{eq-eqb, ne-eqb}
 use Rattle.ground.proofs.Tests.{both, settled}
@@ -13,7 +13,7 @@ use Rattle.state.specs.State.{validPanel, validRegisters}
 use Rattle.display.specs.Frame.{lentLengths}
 use Rattle.effects.specs.Machine.{Machine, machine, bus}
 use Rattle.controller.specs.Access.{Pair, Step, done, answered, refused, stepOf, Accessed, replied, actedOf, accessed, accessOf}
-use Rattle.controller.specs.Run.{pairsOf, Standing, went, halted, turnOf, End, whole, short, Run, runFrom}
+use Rattle.controller.specs.Run.{pairsOf, Standing, turnOf, whole, runFrom}
 use Rattle.controller.specs.Ready.{Runs}
 use Rattle.controller.proofs.Blocks.{pairAt}
 use Rattle.controller.proofs.Laws.{Sounds, sounds, sounds-valid, step-sound}
@@ -22,7 +22,7 @@ use Rattle.controller.proofs.Readied.{runs-lengths}
 use Rattle.controller.proofs.Runs.{pairs-length}
 use Rattle.controller.proofs.Turns.{Answering, answers, declines, Acting, acts, refuses, step-answering, step-acting}
 use Rattle.inspection.specs.Types.{Panel, Registers, Acted, Looked, Inspected}
-use Rattle.inspection.specs.Look.{lookAsked, lookAnswered, unseen, Watched, lookAt, watchBy, watchStep}
+use Rattle.inspection.specs.Look.{lookAsked, lookAnswered, unseen, Watched, watchBy, watchStep}
 use Rattle.inspection.specs.Inspected.{InspectedAll, inspectedAll, unnamed, named, inspectedOf, begunWatch, inspectOf}
 
 -- an access that was taken, or refused, as the step it is

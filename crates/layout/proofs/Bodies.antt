@@ -1,10 +1,10 @@
 -- Bodies that are read in one book, read in another that has their bytes.
-use mathlib.Core.Path.{_≡_, refl, ap, sym, subst, _∙_}
-use mathlib.Core.Bool.{Bool, true, false, cond}
+use mathlib.Core.Path.{_≡_, refl, ap, sym, _∙_}
+use mathlib.Core.Bool.{Bool, true}
 use mathlib.Core.List.{List, [], _∷_, _++_}
-use Prim.Native.Nat.{ℕ, zero, suc, _+_, _-_, _<_, _≤_}
+use Prim.Native.Nat.{ℕ, _+_, _-_, _≤_}
 use native.Mathlib.Omega.{arith}
-use lib.ListN.{length, getD, take, drop, length-append, List·getD-append}
+use lib.ListN.{length, getD, drop, length-append, List·getD-append}
 use lib.Seq.{getD-drop, getD-take, drop-drop, drop-append-seam}
 use Rattle.state.specs.declared.panel.Panel.{Panel}
 use Rattle.contents.specs.Contents.{Body, isTwo, entrySize, entryAt}
@@ -16,7 +16,7 @@ use Rattle.layout.specs.declared.reading.BodyRead.{BodyRead}
 use Rattle.layout.specs.declared.reading.BodyRead.the-variants.{Plain as Body-Plain, And as Body-And, Faulty as Body-Faulty}
 use Rattle.layout.specs.declared.reading.BodiesRead.{BodiesRead}
 use Rattle.layout.specs.declared.reading.BodiesRead.the-variants.{Plain, And, Faulty}
-use Rattle.layout.specs.Uses.{usesAnd, bodyRead, andBefore, readBefore, bodiesRead}
+use Rattle.layout.specs.Uses.{bodyRead, andBefore, readBefore, bodiesRead}
 use Rattle.layout.specs.Laid.{bodiesLaid, bytesBetween, screensOf}
 use Rattle.layout.proofs.Layouts.{bodiesFrom}
 use Rattle.layout.proofs.Puts.{between-length}

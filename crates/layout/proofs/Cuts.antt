@@ -2,10 +2,9 @@
 use mathlib.Core.Path.{_≡_, refl, ap, sym, subst, _∙_}
 use mathlib.Core.Bool.{Bool, true, false, cond}
 use mathlib.Core.List.{List, [], _∷_}
-use Prim.Native.Nat.{ℕ, zero, suc, _+_, _-_, _*_, _<_, _≤_}
+use Prim.Native.Nat.{ℕ, zero, suc, _+_, _-_, _<_, _≤_}
 use native.Mathlib.Nat.{zero-add}
 use native.Mathlib.Omega.{arith}
-use lib.Dec.{eqb}
 use lib.ListN.{length, getD, set}
 use lib.Seq.{sets}
 use borrow.Author.Tests.{eq-eqb, ne-eqb}
@@ -16,13 +15,13 @@ use Rattle.state.specs.State.{validPanel}
 use Rattle.contents.specs.declared.open.Spans.{Spans}
 use Rattle.contents.specs.Contents.{Body, Contents, sound, wrong, isTwo, contentsOf, entriesAt, entrySize, firstBody, entryAt}
 use Rattle.contents.specs.Spans.{keysOf, startsOf, endsOf, spansOf}
-use Rattle.contents.proofs.Soundness.{Entered, SoundBook, sound-book}
-use Rattle.contents.proofs.Spanning.{Stands, first-key, first-start, first-end, stands-on, spans-stand}
+use Rattle.contents.proofs.Soundness.{Entered, sound-book}
+use Rattle.contents.proofs.Spanning.{Stands, first-start, first-end, stands-on, spans-stand}
 use Rattle.layout.specs.declared.moves.Moved.{Moved}
 use Rattle.layout.specs.declared.saving.Salvaged.{Salvaged}
 use Rattle.layout.specs.declared.saving.Tables.{Tables}
 use Rattle.layout.specs.Laid.{laidOut, screensOf}
-use Rattle.layout.specs.Moved.{MovedBook, movedAll, fitted}
+use Rattle.layout.specs.Moved.{movedAll, fitted}
 use Rattle.layout.specs.Ready.{keptFrom, keptIn, sizesFrom, laidSize, Spanned}
 use Rattle.layout.specs.Saved.{goodUntil, goodEnd, cutAll, keptBytes, droppedBytes, SavedBook, savedAll, notSaved, savedBy, savedIn, salvageOf}
 use Rattle.layout.specs.Tables.{goodAt, goodEnds, keptSizes, droppedSizes, tablesOn, tablesOf, cutSpans}

@@ -1,6 +1,6 @@
 -- Good operations: one after the other, inside their body, and the same wherever their bytes stand.
 use mathlib.Core.Path.{_≡_, refl, ap, sym, subst, _∙_}
-use mathlib.Core.Bool.{Bool, true}
+use mathlib.Core.Bool.{true}
 use mathlib.Core.List.{List, [], _∷_}
 use Prim.Native.Nat.{ℕ, zero, suc, _+_, _-_, _<_, _≤_}
 use native.Mathlib.Omega.{arith}
@@ -14,7 +14,7 @@ use Rattle.book.specs.Operation.{Operation, operationOf, foundAt}
 use Rattle.book.specs.Range.{FoundOperation}
 use Rattle.book.specs.Screen.{screen, withOperation, operationsFrom}
 use Rattle.book.proofs.Finding.{found-operation, found-end, at-end}
-use Rattle.book.proofs.Walking.{walk-on, walk-end, step-on, step-end, step-never-faulty}
+use Rattle.book.proofs.Walking.{walk-on, walk-end, step-on, step-never-faulty}
 use Rattle.book.proofs.Locality.{Alike, alike-less, alike-on, found-moves}
 use Rattle.layout.specs.Saved.{afterGood, goodUntil, goodOperations}
 

@@ -5,23 +5,23 @@ use mathlib.Core.List.{List, [], _∷_, _++_}
 use Prim.Native.Nat.{ℕ, zero, suc, _+_, _-_, _*_, _<_, _≤_}
 use native.Mathlib.Nat.{add-assoc, zero-add}
 use native.Mathlib.Omega.{arith}
-use lib.Dec.{leb, eqb}
+use lib.Dec.{eqb}
 use lib.ListN.{length, getD, drop, length-append}
 use lib.Seq.{sets, sets-eq}
 use borrow.Author.Tests.{le-leb, lt-leb}
 use Rattle.contents.specs.declared.open.Spans.{Spans}
-use Rattle.contents.specs.Contents.{Body, Contents, sound, wrong, isTwo, contentsOf, entriesAt, entrySize, firstBody, entryAt}
+use Rattle.contents.specs.Contents.{Body, sound, isTwo, contentsOf, entriesAt, entrySize, firstBody, entryAt}
 use Rattle.contents.specs.Spans.{startsOf, endsOf, spansOf}
 use Rattle.contents.proofs.Soundness.{Entered, SoundBook, sound-book, entered-inside}
 use Rattle.contents.proofs.Spanning.{Stands, first-key, first-start, first-end, stands-on, spans-stand}
 use Rattle.layout.specs.declared.moves.Moved.{Moved}
 use Rattle.layout.specs.Laid.{Kept, entryBytes, headBytes, entriesLaid, bodiesLaid, laidOut, bytesBetween, screensOf}
-use Rattle.layout.specs.Moved.{MovedBook, movedAll, notMoved, fitted, numberedFrom}
-use Rattle.layout.specs.Ready.{BytesPut, readFrom, keptFrom, keptIn, sizesFrom, keysNumbered, entriesFor, laidSize, Spanned, Layable}
+use Rattle.layout.specs.Moved.{movedAll, notMoved, fitted, numberedFrom}
+use Rattle.layout.specs.Ready.{BytesPut, readFrom, keptFrom, keptIn, sizesFrom, keysNumbered, entriesFor, laidSize, Spanned}
 use Rattle.state.specs.declared.panel.Panel.{Panel}
 use Rattle.layout.specs.Uses.{bodiesRead}
 use Rattle.layout.proofs.Uses.{stands-read}
-use Rattle.layout.proofs.Puts.{sets-append, put-both, head-length, entry-length, between-length}
+use Rattle.layout.proofs.Puts.{put-both, head-length, entry-length, between-length}
 
 -- the bytes of entries, and of bodies
 pub entries-length : (two : Bool) (ks : List Kept) (start : ℕ) → length (entriesLaid two ks start) ≡ entrySize two * length ks

@@ -1,20 +1,20 @@
 -- The two laws of a layout: a sound book of bytes is laid out of its own screens, and what is laid out of screens has them for contents.
 use mathlib.Core.Path.{_≡_, refl, ap, sym, subst, _∙_}
-use mathlib.Core.Bool.{Bool, true, false, cond, _&&_}
+use mathlib.Core.Bool.{Bool, true, false, _&&_}
 use mathlib.Core.List.{List, [], _∷_, _++_, append-assoc}
-use Prim.Native.Nat.{ℕ, zero, suc, _+_, _-_, _*_, _/_, _%_, _<_, _≤_}
+use Prim.Native.Nat.{ℕ, suc, _+_, _-_, _*_, _/_, _%_, _<_, _≤_}
 use native.Mathlib.Nat.{add-zero, add-assoc}
 use native.Mathlib.Omega.{arith}
-use lib.Dec.{leb, eqb}
+use lib.Dec.{eqb}
 use lib.ListN.{length, getD, take, drop, length-append, take-append-drop, drop-of-length-le}
 use lib.Seq.{drop-cons, drop-drop, drop-at, getD-drop, take-append-seam, drop-append-seam}
 use borrow.Author.Tests.{eqb-true, eq-eqb, ne-eqb}
 use Rattle.ground.specs.Bytes.{wordOf}
 use Rattle.ground.proofs.Tests.{both-left, both-right}
 use Rattle.contents.specs.declared.entry.Entry.{Entry}
-use Rattle.contents.specs.Contents.{wordAt, Body, Contents, sound, isTwo, countAt, entriesAt, entrySize, lead, firstBody, entryAt, bodyOf, contentsOf}
+use Rattle.contents.specs.Contents.{wordAt, Body, sound, isTwo, countAt, entriesAt, entrySize, firstBody, entryAt, bodyOf, contentsOf}
 use Rattle.contents.proofs.Entries.{Right, Opened}
-use Rattle.contents.proofs.Soundness.{Entered, SoundIn, SoundBook, sound-book, book-sound}
+use Rattle.contents.proofs.Soundness.{Entered, SoundIn, sound-book, book-sound}
 use Rattle.layout.specs.Laid.{Kept, wordBytes, entryBytes, headBytes, entriesLaid, bodiesLaid, laidOut, bytesBetween, screensOf}
 use Rattle.layout.specs.Moved.{numberedFrom}
 use Rattle.layout.specs.Trips.{BookBytes}

@@ -2,23 +2,22 @@
 use mathlib.Core.Path.{_≡_, refl, ap, sym, subst, _∙_}
 use mathlib.Core.Bool.{Bool, true, false, cond}
 use mathlib.Core.List.{List}
-use Prim.Native.Nat.{ℕ, _+_, _*_, _<_, _≤_}
+use Prim.Native.Nat.{ℕ, _<_, _≤_}
 use native.Mathlib.Omega.{arith}
-use lib.Dec.{leb, eqb}
 use lib.ListN.{length, getD}
 use borrow.Author.Tests.{le-leb, lt-leb, eq-eqb, ne-eqb}
 use Rattle.ground.proofs.Tests.{settled}
 use Rattle.state.specs.declared.panel.Panel.{Panel}
 use Rattle.state.specs.State.{validPanel}
 use Rattle.contents.specs.declared.open.Spans.{Spans}
-use Rattle.contents.specs.Contents.{Body, Contents, sound, wrong, isTwo, contentsOf, firstBody}
+use Rattle.contents.specs.Contents.{Body, Contents, sound, wrong, isTwo, contentsOf}
 use Rattle.contents.specs.Spans.{spansOf}
 use Rattle.layout.specs.declared.moves.Moved.{Moved}
 use Rattle.layout.specs.declared.reading.BodiesRead.{BodiesRead}
 use Rattle.layout.specs.declared.reading.BodiesRead.the-variants.{Plain, And, Faulty}
-use Rattle.layout.specs.Laid.{Kept, laidOut, screensOf}
-use Rattle.layout.specs.Moved.{MovedBook, movedAll, notMoved, fitted, fittedUp, upRead, upIn, upOf, numberedFrom, downIn, downOf}
-use Rattle.layout.specs.Ready.{readFrom, keptIn, sizesFrom, keysNumbered, laidSize, Spanned}
+use Rattle.layout.specs.Laid.{laidOut, screensOf}
+use Rattle.layout.specs.Moved.{MovedBook, movedAll, notMoved, fitted, fittedUp, upRead, upIn, upOf, downIn, downOf}
+use Rattle.layout.specs.Ready.{readFrom, keptIn, keysNumbered, laidSize, Spanned}
 use Rattle.layout.proofs.Laying.{Tabled, tabled, laid-size}
 
 -- the form by the first byte

@@ -2,23 +2,21 @@
 use mathlib.Core.Path.{_≡_, refl, ap, sym, subst, _∙_}
 use mathlib.Core.Bool.{Bool, true, false, cond}
 use mathlib.Core.List.{List, [], _∷_, _++_}
-use Prim.Native.Nat.{ℕ, zero, suc, _+_, _-_, _*_, _<_, _≤_}
+use Prim.Native.Nat.{ℕ, zero, suc, _+_, _-_, _<_, _≤_}
 use native.Mathlib.Omega.{arith}
-use lib.Dec.{leb, eqb}
-use lib.ListN.{length, getD, take, drop, length-append}
+use lib.Dec.{leb}
+use lib.ListN.{length, getD, drop, length-append}
 use lib.Seq.{sets, take-append-seam, drop-drop, drop-append-seam}
 use Rattle.ground.specs.Lists.{zeros}
 use Rattle.state.specs.declared.panel.Panel.{Panel}
 use Rattle.state.specs.State.{validPanel}
-use Rattle.contents.specs.Contents.{Body, Contents, sound, wrong, isTwo, contentsOf, entriesAt, entrySize, firstBody, entryAt}
+use Rattle.contents.specs.Contents.{Body, Contents, sound, wrong, isTwo, contentsOf, entriesAt, entrySize, firstBody}
 use Rattle.contents.specs.Spans.{keysOf, startsOf, endsOf}
 use Rattle.contents.proofs.Soundness.{Entered, sound-book}
-use Rattle.book.specs.Screen.{Screen, screen, operationsFrom}
 use Rattle.layout.specs.Laid.{Kept, laidOut, bodiesLaid, bytesBetween, screensOf}
 use Rattle.layout.specs.Moved.{MovedBook, movedAll, notMoved, fitted}
-use Rattle.layout.specs.Ready.{keptIn, laidSize}
-use Rattle.layout.specs.Saved.{goodUntil, goodOperations, goodEnd, cutAll, keptBytes, droppedBytes, SavedBook, savedAll, notSaved, savedBy, savedIn, salvageOf}
-use Rattle.layout.specs.Salvages.{savedBytes, bodyOperations, ReadsAs, SavedAs, Salvages, AllRead, ComesBack}
+use Rattle.layout.specs.Saved.{goodEnd, cutAll, keptBytes, droppedBytes, SavedBook, notSaved, savedBy, savedIn, salvageOf}
+use Rattle.layout.specs.Salvages.{savedBytes, ReadsAs, Salvages, AllRead, ComesBack}
 use Rattle.layout.specs.Trips.{BookBytes}
 use Rattle.layout.proofs.Bodies.{body-alike}
 use Rattle.layout.proofs.Cuts.{cut-count, cut-spanned, cut-size, cut-kept, entered-good}

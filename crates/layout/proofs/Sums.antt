@@ -1,19 +1,19 @@
 -- The screens of a book by its tables, taken one after the other: their bytes added up, their entries and bodies put, their keys compared.
 use mathlib.Core.Path.{_≡_, refl, ap, sym, subst, _∙_}
-use mathlib.Core.Bool.{Bool, true, false, cond, _&&_}
-use mathlib.Core.List.{List, [], _∷_, _++_}
-use Prim.Native.Nat.{ℕ, zero, suc, _+_, _-_, _*_, _<_, _≤_}
+use mathlib.Core.Bool.{Bool, true, false, _&&_}
+use mathlib.Core.List.{List, _++_}
+use Prim.Native.Nat.{ℕ, suc, _+_, _-_, _*_, _<_, _≤_}
 use native.Mathlib.Nat.{add-assoc, add-zero}
 use native.Mathlib.Omega.{arith}
 use lib.Dec.{eqb}
-use lib.ListN.{length, getD, length-append}
-use lib.Seq.{sets, sets-eq}
+use lib.ListN.{length, getD}
+use lib.Seq.{sets}
 use Rattle.contents.specs.declared.open.Spans.{Spans}
 use Rattle.contents.specs.Contents.{entriesAt, entrySize, firstBody}
 use Rattle.contents.proofs.Entries.{entry-room, next-entry, first-entry}
-use Rattle.layout.specs.Laid.{Kept, entryBytes, headBytes, entriesLaid, bodiesLaid, laidOut, bytesBetween}
+use Rattle.layout.specs.Laid.{entryBytes, bodiesLaid, bytesBetween}
 use Rattle.layout.specs.Ready.{BytesPut, keptFrom, keptIn, sizesFrom, keysNumbered, entriesFor, laidSize, Spanned, Layable}
-use Rattle.layout.proofs.Puts.{Putting, putting-starts, putting-more, putting-ends, head-length, entry-length, between-length}
+use Rattle.layout.proofs.Puts.{Putting, putting-more, putting-ends, entry-length, between-length}
 
 -- inside a book of so many bytes, inside one of the most
 pub spanned-wide : {s : Spans} {most : ℕ} → Spanned s most → Spanned s 32768

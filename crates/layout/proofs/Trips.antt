@@ -1,22 +1,22 @@
 -- Up then down, and down then up, give the same bytes.
 use mathlib.Core.Path.{_≡_, refl, ap, sym, subst, _∙_}
 use mathlib.Core.Bool.{Bool, true, false, cond}
-use mathlib.Core.List.{List, [], _∷_, _++_}
-use Prim.Native.Nat.{ℕ, _+_, _*_, _<_, _≤_}
+use mathlib.Core.List.{List, _++_}
+use Prim.Native.Nat.{ℕ, _+_, _≤_}
 use native.Mathlib.Omega.{arith}
-use lib.Dec.{leb, eqb}
-use lib.ListN.{length, take, drop}
+use lib.Dec.{leb}
+use lib.ListN.{length, drop}
 use lib.Seq.{take-append-seam}
 use borrow.Author.Tests.{le-leb, leb-true}
 use Rattle.state.specs.declared.panel.Panel.{Panel}
 use Rattle.state.specs.State.{validPanel}
 use Rattle.contents.specs.Contents.{Body, Contents, sound, wrong, isTwo, contentsOf, entriesAt, firstBody}
-use Rattle.contents.proofs.Soundness.{SoundBook, sound-book}
+use Rattle.contents.proofs.Soundness.{sound-book}
 use Rattle.layout.specs.declared.reading.BodiesRead.{BodiesRead}
 use Rattle.layout.specs.declared.reading.BodiesRead.the-variants.{Plain, And, Faulty}
 use Rattle.layout.specs.Uses.{bodiesRead}
 use Rattle.layout.specs.Laid.{Kept, laidOut, screensOf}
-use Rattle.layout.specs.Moved.{MovedBook, movedAll, notMoved, fitted, fittedUp, upRead, upIn, upOf, numberedFrom, downIn, downOf}
+use Rattle.layout.specs.Moved.{movedAll, notMoved, fitted, fittedUp, upRead, upIn, upOf, numberedFrom, downIn, downOf}
 use Rattle.layout.specs.Trips.{movedBytes, BookBytes, UpDown, DownUp}
 use Rattle.layout.proofs.Laying.{laid-length}
 use Rattle.layout.proofs.Bodies.{bodies-move}

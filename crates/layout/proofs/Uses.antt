@@ -1,8 +1,8 @@
 -- The bodies of a book read on a panel: one after the other, by the tables and by the contents.
-use mathlib.Core.Path.{_≡_, refl, ap, sym, subst, _∙_}
+use mathlib.Core.Path.{_≡_, refl, ap, sym, _∙_}
 use mathlib.Core.Bool.{Bool, true, false, cond, _||_}
 use mathlib.Core.List.{List, [], _∷_}
-use Prim.Native.Nat.{ℕ, zero, suc, _+_, _-_, _<_, _≤_}
+use Prim.Native.Nat.{ℕ, suc, _+_, _-_, _<_, _≤_}
 use native.Mathlib.Omega.{arith}
 use lib.ListN.{length, getD}
 use Rattle.state.specs.declared.panel.Panel.{Panel}
@@ -21,7 +21,7 @@ use Rattle.book.proofs.Walking.{walk-on, walk-end, walk-faulty}
 use Rattle.layout.specs.declared.reading.BodyRead.{BodyRead}
 use Rattle.layout.specs.declared.reading.BodyRead.the-variants.{Plain as Body-Plain, And as Body-And, Faulty as Body-Faulty}
 use Rattle.layout.specs.declared.reading.BodiesRead.{BodiesRead}
-use Rattle.layout.specs.declared.reading.BodiesRead.the-variants.{Plain, And, Faulty}
+use Rattle.layout.specs.declared.reading.BodiesRead.the-variants.{Plain}
 use Rattle.layout.specs.Uses.{isAnd, usesAnd, bodyRead, readBefore, bodiesRead}
 use Rattle.layout.specs.Ready.{placedAnd, readFrom}
 

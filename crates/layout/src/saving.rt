@@ -1,6 +1,6 @@
 // A torn book saved.
 ghost use mathlib.Core.Path.{_≡_};
-ghost use Prim.Native.Nat.{_-_, _≤_};
+ghost use Prim.Native.Nat.{_-_};
 ghost use lib.ListN.{length};
 ghost use Rattle.ground.specs.Lists.{zeros};
 ghost use Rattle.layout.specs.Saved.{goodUntil, savedAll, salvageOf};

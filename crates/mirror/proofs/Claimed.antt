@@ -1,8 +1,8 @@
 -- Converted twice a frame is as it was, and converted once it is XBM.
-use mathlib.Core.Path.{_≡_, refl, ap, sym, subst, _∙_}
+use mathlib.Core.Path.{_≡_, refl, ap, sym, _∙_}
 use mathlib.Core.List.{List, map}
-use mathlib.Core.Bool.{Bool, true, false, cond}
-use Prim.Native.Nat.{ℕ, _+_, _-_, _*_, _/_, _%_, _^_, _<_}
+use mathlib.Core.Bool.{Bool, true, false}
+use Prim.Native.Nat.{ℕ, _+_, _-_, _*_, _/_, _%_, _<_}
 use native.Mathlib.Omega.{arith}
 use lib.Dec.{eqb}
 use lib.ListN.{length, getD, length-map}
@@ -11,8 +11,8 @@ use borrow.Author.Tests.{eq-eqb}
 use Rattle.ground.specs.Bytes.{bitOf}
 use Rattle.state.specs.State.{validPanel}
 use Rattle.state.specs.Sizes.{rowSize}
-use Rattle.display.specs.Types.{Panel, Display}
-use Rattle.display.specs.Frame.{frameFits, replyOf, Painted, painted, dotOf, frameOf}
+use Rattle.display.specs.Types.{Panel}
+use Rattle.display.specs.Frame.{frameFits, replyOf, Painted, painted, frameOf}
 use Rattle.display.proofs.Painted.{frame-length, frame-dot}
 use Rattle.mirror.specs.Order.{mirrored, convertOf}
 use Rattle.mirror.specs.Claims.{ConvertTwice, XbmDot}

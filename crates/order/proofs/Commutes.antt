@@ -1,8 +1,8 @@
 -- Two neighbours that are free of each other leave the same picture, and are written in as many pairs, in either order.
-use mathlib.Core.Path.{_≡_, refl, sym, ap, subst, _∙_}
-use mathlib.Core.Bool.{Bool, true, false, not, _&&_, _||_, true≢false}
+use mathlib.Core.Path.{_≡_, refl, sym, ap, _∙_}
+use mathlib.Core.Bool.{Bool, true, false, not, _&&_, true≢false}
 use mathlib.Core.List.{List, [], _∷_, _++_}
-use Prim.Native.Nat.{ℕ, _+_, _*_, _/_, _%_}
+use Prim.Native.Nat.{ℕ, _+_, _/_, _%_}
 use native.Mathlib.Nat.{div-lt-iff-lt-mul}
 use native.Mathlib.Omega.{arith}
 use lib.Dec.{eqb}
@@ -26,7 +26,7 @@ use Rattle.picture.specs.declared.cursor.Laid.{Laid}
 use Rattle.picture.specs.Picture.{Picture, blank, applied, appliedAll, pictureOf}
 use Rattle.picture.proofs.Planes.{stores-swap}
 use Rattle.order.specs.Order.{operationNumber, areaOf, uses, graphicNumber, unlikeNumbers, onePlane, Free, unlike, apart}
-use Rattle.order.proofs.Parts.{onGraphic, onCodes, onGlyphs, onCombination, onCursor, byParts, applied-parts, Within, graphicUsed, codesUsed, glyphsUsed, stores-graphic, stores-codes, stores-glyphs}
+use Rattle.order.proofs.Parts.{onCombination, onCursor, byParts, applied-parts, Within, graphicUsed, codesUsed, glyphsUsed, stores-graphic, stores-codes, stores-glyphs}
 
 none-right : (t u : Bool) → u ≡ false → (t && u) ≡ false
 none-right true u e = e

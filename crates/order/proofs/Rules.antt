@@ -11,7 +11,7 @@ use Rattle.ground.proofs.Tests.{both, both-left, both-right, either}
 use Rattle.state.specs.declared.panel.Panel.{Panel}
 use Rattle.book.specs.Operation.{Operation}
 use Rattle.order.specs.declared.area.Area.{Area}
-use Rattle.order.specs.Order.{operationNumber, areaOf, uses, unlikeNumbers, onePlane, Free, unlike, apart, meets, shares, mayBy, mayOf}
+use Rattle.order.specs.Order.{operationNumber, areaOf, uses, unlikeNumbers, onePlane, Free, unlike, apart, meets, shares, mayOf}
 
 -- a sum compared by the difference
 pub less-sum : (s t n : ℕ) → t ≤ s → ltb (s - t) n ≡ ltb s (t + n)

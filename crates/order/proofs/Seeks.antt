@@ -1,8 +1,8 @@
 -- A body walked to operation i: what is left of it has the two that were asked for.
 use mathlib.Core.Path.{_≡_, refl, sym, ap, _∙_}
 use mathlib.Core.Bool.{Bool, true, false, cond}
-use mathlib.Core.List.{List, [], _∷_}
-use Prim.Native.Nat.{ℕ, suc, _+_, _-_, _<_, _≤_}
+use mathlib.Core.List.{List, _∷_}
+use Prim.Native.Nat.{ℕ, suc, _-_, _≤_}
 use native.Mathlib.Omega.{arith}
 use lib.ListN.{length, take, drop, length-take, length-drop}
 use Rattle.state.specs.declared.panel.Panel.{Panel}
@@ -14,13 +14,12 @@ use Rattle.book.specs.declared.operation.Found.{Found}
 use Rattle.book.specs.declared.operation.Found.the-variants.{Operation as Found-Operation, End, Faulty}
 use Rattle.book.specs.Operation.{Operation, operationOf, foundAt}
 use Rattle.book.specs.Range.{InRange, FoundOperation}
-use Rattle.book.specs.Screen.{Screen, screen, refused, operationsFrom, screenOf}
-use Rattle.book.specs.Checked.{checkedOf, refusedWith}
+use Rattle.book.specs.Screen.{Screen, screen, operationsFrom, screenOf}
+use Rattle.book.specs.Checked.{checkedOf}
 use Rattle.book.proofs.Finding.{found-operation}
 use Rattle.book.proofs.Verdicts.{Accepted, checked-is, checked-invalid, checked-refusal}
 use Rattle.book.proofs.Walking.{Step, step-on, step-end, step-never-faulty}
 use Rattle.picture.specs.Ready.{DrawableBody}
-use Rattle.order.specs.declared.area.Area.{Area}
 use Rattle.order.specs.declared.swap.Swap.{Swap}
 use Rattle.order.specs.declared.swap.Swap.the-variants.{May, Stays, NoTwo, Refused}
 use Rattle.order.specs.Order.{operationNumber, areaOf, mayBy, mayOf}

@@ -6,7 +6,7 @@ use Prim.Native.Nat.{ℕ, _*_}
 use native.Mathlib.Omega.{arith}
 use lib.Dec.{eqb}
 use lib.ListN.{length}
-use borrow.Author.Tests.{eqb-true, eq-eqb, ne-eqb, not-true, not-false}
+use borrow.Author.Tests.{eqb-true, not-true, not-false}
 use Rattle.ground.proofs.Tests.{both-left, both-right, settled}
 use Rattle.state.specs.declared.panel.Panel.{Panel}
 use Rattle.state.specs.declared.reply.Reply.{Reply}
@@ -19,7 +19,7 @@ use Rattle.book.proofs.Numbers.{refusal-number}
 use Rattle.picture.specs.declared.plan.Planned.{Planned}
 use Rattle.picture.specs.Picture.{Picture, blank, pictureOf, pictureFrame}
 use Rattle.picture.specs.Ready.{Sized}
-use Rattle.picture.specs.Planned.{Plan, plannedAll, refusedPlan, pictured, areasFit, planScreen, planesOf}
+use Rattle.picture.specs.Planned.{Plan, plannedAll, refusedPlan, areasFit, planScreen, planesOf}
 use Rattle.picture.proofs.Bodies.{all-sized, blank-sized}
 use Rattle.painter.specs.Ready.{Paintable, drawDoor}
 use Rattle.painter.specs.Drawn.{Drew, drewAll, planesFit, drawScreen, drawOf}

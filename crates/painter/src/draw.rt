@@ -1,6 +1,5 @@
 // A screen of a book drawn, with no controller.
 ghost use mathlib.Core.Path.{_≡_};
-ghost use lib.ListN.{length};
 ghost use Rattle.painter.specs.Ready.{drawDoor};
 ghost use Rattle.painter.specs.Drawn.{drewAll, drawOf};
 use super::paint::paint_rows;

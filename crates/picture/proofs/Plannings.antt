@@ -15,7 +15,7 @@ use Rattle.book.specs.Checked.{checkedOf}
 use Rattle.book.proofs.Verdicts.{Accepted, checked-is, checked-refusal}
 use Rattle.picture.specs.declared.style.Style.{Style}
 use Rattle.picture.specs.declared.plan.Planned.{Planned}
-use Rattle.picture.specs.Picture.{Picture, blank, pictureOf}
+use Rattle.picture.specs.Picture.{blank, pictureOf}
 use Rattle.picture.specs.Ready.{pictureWith, Sized, DrawableBody, appliedIn}
 use Rattle.picture.specs.Planned.{Plan, plannedAll, refusedPlan, pictured, areasFit, planScreen, planesOf}
 

@@ -4,7 +4,6 @@ use mathlib.Core.Bool.{Bool, true, false, cond, not, _&&_, _||_}
 use mathlib.Core.List.{List, [], _∷_}
 use Prim.Native.Nat.{ℕ, suc, _+_, _*_, _/_, _%_, _<_, _≤_}
 use native.Mathlib.Omega.{arith}
-use lib.Dec.{ltb, eqb}
 use lib.ListN.{length, getD, set, take, drop, length-set}
 use lib.Seq.{sets, sets-eq, take-at, take-all, getD-set-same, getD-set-other}
 use borrow.Author.Tests.{lt-ltb, le-ltb, eq-eqb}
@@ -16,12 +15,12 @@ use Rattle.display.specs.Frame.{lentLengths}
 use Rattle.effects.specs.Machine.{Machine, machine}
 use Rattle.effects.specs.Effect.{statusOf}
 use Rattle.controller.specs.Access.{Pair, Step, done, answered, refused, stepOf}
-use Rattle.controller.specs.Run.{pairsOf, logOf, Standing, Turn, went, halted, turnOf, whole, short, Run, afterTurn, runFrom, RanAll, ranOf, ranNone, stoppingOf}
+use Rattle.controller.specs.Run.{pairsOf, logOf, Standing, went, halted, turnOf, whole, short, Run, afterTurn, runFrom, RanAll, ranOf, ranNone, stoppingOf}
 use Rattle.controller.proofs.Splits.{ended, not-whole}
 use Rattle.controller.proofs.Takes.{Takes}
 use Rattle.controller.proofs.Logs.{log-length, log-pairs, run-takes}
 use Rattle.book.specs.Operation.{Operation}
-use Rattle.book.specs.Screen.{Screen, screen, screenOf}
+use Rattle.book.specs.Screen.{screen, screenOf}
 use Rattle.writer.specs.Stream.{streamOf, countOf}
 use Rattle.writer.specs.Written.{Wrote, wrote}
 use Rattle.writer.proofs.Lengths.{stream-length}
@@ -31,7 +30,7 @@ use Rattle.inspection.specs.declared.look.Named.{Named}
 use Rattle.inspection.specs.declared.look.Named.the-variants.{Nothing}
 use Rattle.inspection.specs.declared.look.Looked.{Looked}
 use Rattle.inspection.specs.Look.{readyFor, needsAsking, firstNamed, lookAnswered, unseen, Watched, lookAt, watchBy, watchStep}
-use Rattle.inspection.specs.Inspected.{InspectedAll, inspectedAll, unnamed, named, inspectedOf, begunWatch, inspectOf}
+use Rattle.inspection.specs.Inspected.{InspectedAll, inspectedAll, unnamed, inspectedOf, begunWatch, inspectOf}
 use Rattle.inspection.specs.Claims.{ownRun, ownAnswers}
 use Rattle.inspection.proofs.Owns.{over, Along, along-log, own-length, own-answer, ready-own}
 use Rattle.rehearsal.specs.Asks.{AskingPasses}

@@ -2,7 +2,7 @@
 use mathlib.Core.Path.{_≡_, refl, sym, ap, subst, _∙_}
 use mathlib.Core.Bool.{Bool, true}
 use mathlib.Core.List.{List, []}
-use Prim.Native.Nat.{ℕ, _+_, _*_, _≤_, _<_}
+use Prim.Native.Nat.{ℕ, _*_, _<_}
 use native.Mathlib.Omega.{arith}
 use lib.ListN.{length, getD, take}
 use lib.Seq.{sets}
@@ -22,7 +22,7 @@ use Rattle.controller.proofs.Takes.{Takes}
 use Rattle.book.specs.Operation.{Operation}
 use Rattle.book.specs.Screen.{screen, screenOf}
 use Rattle.writer.specs.Stream.{countOf}
-use Rattle.writer.specs.Written.{Wrote, wrote, writeOf}
+use Rattle.writer.specs.Written.{Wrote, wrote}
 use Rattle.writer.proofs.Answers.{write-fits}
 use Rattle.picture.specs.Picture.{Picture, pictureOf}
 use Rattle.difference.specs.Short.{shortStream, shortCount}
@@ -37,7 +37,7 @@ use Rattle.rehearsal.proofs.Demand3.{written-log, holding-length, came,
 use Rattle.rehearsal.proofs.Idles.{Idled, idle-run}
 use Rattle.rehearsal.proofs.Openings.{firstGap, secondGap, Drawn}
 use Rattle.rehearsal.proofs.Shortened.{Turns, short-turns}
-use Rattle.rehearsal.proofs.Simulated.{displayFor, machineFor, Shape}
+use Rattle.rehearsal.proofs.Simulated.{displayFor, machineFor}
 
 -- the machine that a run leaves
 abbrev standing : RanAll → Machine

@@ -1,5 +1,5 @@
 -- Ticks and status reads change the phase alone; a byte stored by C4H leaves the pointer.
-use mathlib.Core.Path.{_≡_, refl, sym, ap, subst, _∙_}
+use mathlib.Core.Path.{_≡_, refl, sym, ap, subst}
 use mathlib.Core.Bool.{Bool, true, false, cond, not, _&&_, _||_}
 use mathlib.Core.List.{List, [], _∷_}
 use mathlib.Core.Logic.{_⊎_, inl, inr}
@@ -15,8 +15,8 @@ use Rattle.state.specs.State.{validPanel, validRegisters}
 use Rattle.display.specs.Frame.{lentLengths}
 use Rattle.effects.specs.Effect.{withPhase}
 use Rattle.effects.specs.Machine.{Machine, machine}
-use Rattle.controller.specs.Access.{Pair, datum, code, Step, done, answered, stepOf}
-use Rattle.controller.specs.Run.{Standing, Turn, went, halted, turnOf, afterTurn, Run, short, runFrom, RanAll, ranOf, ranNone, pairsOf, logOf, stoppingOf}
+use Rattle.controller.specs.Access.{Pair, datum, code, Step, stepOf}
+use Rattle.controller.specs.Run.{Standing, went, halted, turnOf, afterTurn, Run, short, runFrom, RanAll, ranOf, ranNone, pairsOf, logOf, stoppingOf}
 use Rattle.controller.proofs.Logs.{log-pairs}
 use Rattle.controller.proofs.Takes.{Takes, takes-both, takes-one, resting}
 use Rattle.rehearsal.specs.Changes.{allIdle}

@@ -1,8 +1,7 @@
 -- Request 13 from the pictures of both orders and demand 3: what a stream leaves in memory is its picture's planes.
 use mathlib.Core.Path.{_≡_, sym, ap, _∙_}
-use mathlib.Core.Bool.{true}
 use mathlib.Core.List.{List, [], _∷_, _++_}
-use Prim.Native.Nat.{ℕ, _+_, _*_, _≤_}
+use Prim.Native.Nat.{ℕ, _+_, _*_}
 use native.Mathlib.Omega.{arith}
 use Rattle.state.specs.declared.panel.Panel.{Panel}
 use Rattle.book.specs.Operation.{Operation}

@@ -38,7 +38,7 @@ use Rattle.writer.specs.Stream.{pointTo, block, rowBlocks, combinationCode, ope
 use Rattle.writer.proofs.Lengths.{part-length}
 use Rattle.state.specs.Halves.{cursorY}
 use Rattle.state.proofs.Halves.{y-few}
-use Rattle.state.proofs.Sizes.{some-width, columns-few, lines-few}
+use Rattle.state.proofs.Sizes.{some-width, columns-few}
 use Rattle.book.proofs.Places.{bit-few}
 use Rattle.picture.specs.declared.cursor.Laid.{Laid}
 use Rattle.picture.specs.declared.cursor.Laid.the-variants.{Nowhere, Over}

@@ -1,12 +1,12 @@
 -- 01, Bus pairs: what one pair does.
 use Prim.Native.Nat.{ℕ}
-use mathlib.Core.Bool.{cond, not, _&&_, _||_}
+use mathlib.Core.Bool.{cond, not, _||_}
 use mathlib.Core.List.{List}
 use lib.Dec.{leb, eqb}
 use Rattle.effects.specs.Machine.{Machine, machine, display, bus, pointer, there, onDisplay, onBus, storing}
 use Rattle.sight.specs.Sight.{position, peekOf, copyOf}
 use Rattle.ground.specs.Bytes.{withBit}
-use Rattle.sight.specs.Types.{Panel, Auto, Off, Write, Read, Registers, Command, Set, Mode, DisplayMode, Height, Run, Store, Load, Peek, Copy, Bit, Decoded, Defined, Undefined, Up}
+use Rattle.sight.specs.Types.{Panel, Auto, Off, Write, Read, Command, Set, Mode, DisplayMode, Height, Run, Store, Load, Peek, Copy, Bit, Decoded, Defined, Undefined, Up}
 use Rattle.state.specs.State.{none}
 use Rattle.codes.specs.Command.{decodeOf, neededOf, isOff, endsAuto}
 use Rattle.effects.specs.Effect.{withMode, withDisplayBits, withHeight, withPhase, withPointer, withAuto, withPending, withLatch, pushed, movedOf, setOf, statusOf}

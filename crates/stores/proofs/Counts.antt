@@ -1,6 +1,6 @@
 -- How many bytes a copy stores, from where the pointer was found.
 use mathlib.Core.Path.{_≡_, ap, sym, subst, _∙_}
-use mathlib.Core.Bool.{Bool, true, false, cond, _||_}
+use mathlib.Core.Bool.{Bool, true, cond, _||_}
 use Prim.Native.Nat.{ℕ, _-_, _<_}
 use lib.Dec.{eqb}
 use Rattle.state.specs.State.{validPanel}
@@ -10,7 +10,6 @@ use Rattle.effects.specs.Effect.{isWrite}
 use Rattle.sight.specs.Position.{positionOf, locatedOf}
 use Rattle.sight.specs.Sight.{position}
 use Rattle.sight.proofs.Positions.{Within, position-within}
-use Rattle.controller.specs.Access.{Pair}
 use Rattle.stores.specs.Stores.{copyStores, codeStores, storesAsked}
 use Rattle.controller.specs.Types.{Panel, Registers, Position, At, Nowhere}
 

@@ -2,7 +2,7 @@
 use mathlib.Core.Path.{_≡_, refl, ap, sym, subst, _∙_}
 use mathlib.Core.Bool.{Bool, true, false, cond, _||_}
 use mathlib.Core.List.{List, [], _∷_}
-use Prim.Native.Nat.{ℕ, suc, _+_, _-_, _%_, _<_, _≤_}
+use Prim.Native.Nat.{ℕ, suc, _+_, _-_, _%_, _<_}
 use native.Mathlib.Decide.{decLt}
 use native.Mathlib.Omega.{arith}
 use lib.Dec.{leb, eqb}
@@ -18,8 +18,8 @@ use Rattle.effects.specs.Effect.{withBus, withError, isWrite, statusOf}
 use Rattle.sight.specs.Position.{positionOf}
 use Rattle.sight.specs.Sight.{copiedOf, copyOf}
 use Rattle.sight.proofs.Positions.{Within, position-within}
-use Rattle.controller.specs.Types.{Panel, Registers, Auto, Off, Write, Read, Command, Set, Mode, DisplayMode, Height, Run, Store, Load, Peek, Copy, Bit, Decoded, Defined, Undefined, Position, At, Nowhere}
-use Rattle.controller.specs.Access.{Pair, Step, done, answered, refused, effectOf, dropped, obeyOf, commandOf, dataWriteOf, dataReadOf, tickOf, stepOf}
+use Rattle.controller.specs.Types.{Panel, Auto, Off, Write, Read, Command, Set, Mode, DisplayMode, Height, Run, Store, Load, Peek, Copy, Bit, Decoded, Defined, Undefined, Position, At, Nowhere}
+use Rattle.controller.specs.Access.{Pair, done, answered, refused, effectOf, dropped, obeyOf, commandOf, dataWriteOf, dataReadOf, tickOf, stepOf}
 use Rattle.stores.specs.Stores.{copyStores, commandStores, codeStores, storesOf, fromAddress}
 use Rattle.controller.proofs.Goings.{Leaves}
 

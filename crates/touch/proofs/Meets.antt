@@ -1,5 +1,5 @@
 -- What each look at a row's bytes comes to.
-use mathlib.Core.Path.{_≡_, refl, ap, sym, subst, _∙_}
+use mathlib.Core.Path.{_≡_, refl, ap, sym, _∙_}
 use mathlib.Core.Bool.{Bool, true, false, cond, not, _&&_, _||_}
 use mathlib.Core.Logic.{⊎-elim}
 use mathlib.Core.List.{List}
@@ -7,17 +7,16 @@ use Prim.Native.Nat.{ℕ, _+_, _-_, _*_, _/_, _%_, _<_, _≤_, min}
 use native.Mathlib.Decide.{decLt}
 use native.Mathlib.Omega.{arith}
 use lib.Dec.{ltb, eqb}
-use lib.ListN.{length, getD}
+use lib.ListN.{getD}
 use borrow.Author.Tests.{ltb-true, ltb-false, eqb-true, eqb-false, lt-ltb, le-ltb}
-use Rattle.ground.proofs.Tests.{both, both-left, both-right, either}
-use Rattle.state.specs.Combination.{isAttribute}
+use Rattle.ground.proofs.Tests.{both, both-right, either}
 use Rattle.display.specs.Displayed.{addressOf, textCode}
 use Rattle.display.specs.Layers.{fromMemory}
 use Rattle.stores.specs.Stores.{fromAddress}
 use Rattle.touch.specs.Types.{Panel, Plane, Display}
 use Rattle.touch.specs.Touch.{anyOf, inRow, glyphByteAt, glyphAt, planeRow, touches, touchedBy}
 use Rattle.touch.specs.Ready.{rowMeets, spanOf, reachesOf, planesMeet, codeMeets, lineMeets, glyphMeets, nearBank}
-use Rattle.touch.proofs.Anys.{alike, or-left, or-right, not-both, any-found, any-has, any-none, any-cong, any-or, any-swap, within, across}
+use Rattle.touch.proofs.Anys.{alike, or-left, or-right, not-both, any-found, any-none, any-or, any-swap, within, across}
 
 there-and-back : (a s : ℕ) → a < 65536 → s < 65536 → ((a + (65536 - s)) % 65536 + (s + (65536 - a)) % 65536) % 65536 ≡ 0
 there-and-back a s la ls = omega arith

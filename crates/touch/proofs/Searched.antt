@@ -5,7 +5,7 @@ use mathlib.Core.List.{List}
 use Prim.Native.Nat.{ℕ, _+_, _*_, _/_, _%_, _<_, _≤_}
 use native.Mathlib.Omega.{arith}
 use lib.ListN.{getD}
-use Rattle.display.specs.Displayed.{addressOf, textCode}
+use Rattle.display.specs.Displayed.{textCode}
 use Rattle.touch.specs.Types.{Panel, Display}
 use Rattle.touch.specs.Touch.{anyOf}
 use Rattle.touch.specs.Ready.{codeMeets, lineMeets}

@@ -1,3 +1,2 @@
 pub mod Tells
 pub mod Usuals
-pub mod Alones

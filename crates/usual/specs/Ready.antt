@@ -9,8 +9,8 @@ use Rattle.state.specs.State.{none}
 use Rattle.codes.specs.Command.{isOff}
 use Rattle.effects.specs.Effect.{withPending}
 use Rattle.effects.specs.Machine.{Machine, machine}
-use Rattle.sight.specs.Steps.{Pair, code, Step, done, answered, stepOf}
-use Rattle.usual.specs.Types.{Panel, Display, Bus, Told, Drawn, Altered, Asked}
+use Rattle.sight.specs.Steps.{code, Step, done, answered, stepOf}
+use Rattle.usual.specs.Types.{Panel, Display, Bus, Told, Drawn, Asked}
 
 -- a command told to the bus and the memory alone, where auto is off: done as a step does it, whatever the display; or left, and all is as it was
 pub record Tells (b : Bus) (mem : List ℕ) (still : Bool) (k : ℕ) (told : Told) (after : List ℕ) : Type 0 where
@@ -24,11 +24,6 @@ pub record Draws (d : Display) (still : Bool) (k : ℕ) (drawn : Drawn) : Type 0
   pub quiet : drawn .done ≡ true → still ≡ true
   pub acts : drawn .done ≡ true → (b : Bus) → isOff (b .auto) ≡ true → (p : Panel) (rom mem : List ℕ)
       → stepOf p rom (machine (record { display = d; bus = b }) mem) (code k) ≡ done (machine (record { display = drawn .display; bus = withPending b none }) mem)
-
--- a pair that alters the registers alone, whatever the memory
-pub record Alones (d : Display) (b : Bus) (q : Pair) (u : Altered) : Type 0 where
-  pub acts : u .done ≡ true → (p : Panel) (rom mem : List ℕ)
-      → stepOf p rom (machine (record { display = d; bus = b }) mem) q ≡ done (machine (record { display = u .display; bus = u .bus }) mem)
 
 -- a step that answers, and there is room for its byte
 pub record Answers (o : Step Machine) (m : Machine) (answers : List ℕ) (given : ℕ) (after : List ℕ) (next : ℕ) : Type 0 where

@@ -16,4 +16,3 @@ pub use Rattle.codes.specs.declared.decode.Decoded.the-variants.{Defined, Undef
 pub use Rattle.usual.specs.declared.tell.Told.{Told}
 pub use Rattle.usual.specs.declared.draw.Drawn.{Drawn}
 pub use Rattle.usual.specs.declared.ask.Asked.{Asked}
-pub use Rattle.usual.specs.declared.alone.Altered.{Altered}

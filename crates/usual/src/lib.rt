@@ -1,5 +1,4 @@
 // The pairs that a drawing program sends most, taken apart from the others: done as a step does them, with no test of the door; any other is left.
-pub mod alone;
 pub mod ask;
 pub mod draw;
 pub mod part;

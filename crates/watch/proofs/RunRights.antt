@@ -17,10 +17,10 @@ use Rattle.controller.specs.Skip.{Skipping, skipStep, skipBy}
 use Rattle.controller.proofs.Goings.{Leaves}
 use Rattle.controller.proofs.Laws.{Sounds, sounds, step-sound}
 use Rattle.touch.specs.Marked.{flagsFit}
-use Rattle.flags.specs.Flags.{Flagged, withFlags, flagBy, flagStep}
+use Rattle.flags.specs.Flags.{Flagged, flagBy, flagStep}
 use Rattle.flags.specs.Claims.{Right}
 use Rattle.flags.proofs.Rights.{RightOf, step-right}
-use Rattle.watch.specs.Types.{Panel, Registers}
+use Rattle.watch.specs.Types.{Panel}
 use Rattle.watch.specs.Watched.{RanFlags, begunFlags, ranFlagsOf, ranFlagsNone, flagRunOf}
 use Rattle.watch.specs.Claims.{RunRight}
 

@@ -2,14 +2,14 @@
 use mathlib.Core.Path.{_≡_, refl, ap, sym, subst, _∙_}
 use mathlib.Core.Bool.{Bool, true, false, cond, not, _||_}
 use mathlib.Core.List.{List, [], _∷_}
-use Prim.Native.Nat.{ℕ, zero, suc, _+_, _-_, _*_, _/_, _%_, _<_, _≤_}
+use Prim.Native.Nat.{ℕ, zero, suc, _+_, _-_, _*_, _/_, _%_, _<_}
 use native.Mathlib.Omega.{arith}
-use lib.ListN.{length, getD, take, drop, set, length-set}
+use lib.ListN.{length, drop, set, length-set}
 use borrow.Author.Tests.{ne-eqb}
 use Rattle.ground.specs.Lists.{stored}
 use Rattle.ground.proofs.Lists.{build-length}
 use Rattle.display.specs.Displayed.{textCode}
-use Rattle.effects.specs.Machine.{Machine, machine}
+use Rattle.effects.specs.Machine.{machine}
 use Rattle.effects.specs.Effect.{isWrite, withBus, withPointer}
 use Rattle.controller.specs.Types.{Auto, Write}
 use Rattle.controller.specs.Access.{Pair, Step, dataWriteOf}
@@ -19,7 +19,7 @@ use Rattle.controller.specs.Ready.{dataOf}
 use Rattle.stores.specs.Stores.{storesOf, fromAddress}
 use Rattle.stores.proofs.Stored.{Stored, one-stored, many-stored}
 use Rattle.touch.specs.Touch.{anyOf, inRow, glyphByteAt, glyphAt, planeRow, touches, touchedBy}
-use Rattle.touch.specs.Marked.{setWhere, markedOf}
+use Rattle.touch.specs.Marked.{markedOf}
 use Rattle.touch.proofs.Anys.{or-left, or-right, any-found, any-has, any-not, any-cong, any-first}
 use Rattle.touch.proofs.Marks.{set-again, marks-none}
 use Rattle.flags.specs.Flags.{flagsAfter, Flagged, withFlags, flagBy, flagStep}

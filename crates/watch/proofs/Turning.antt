@@ -1,6 +1,6 @@
 -- One pair of a run with flags, and the list of skipped pairs behind it.
 use mathlib.Core.Path.{_≡_, refl, ap, sym, subst, _∙_}
-use mathlib.Core.Logic.{_⊎_, inl, inr, ⊎-elim}
+use mathlib.Core.Logic.{_⊎_, ⊎-elim}
 use mathlib.Core.Bool.{Bool, true, false, cond, not, _&&_, _||_}
 use mathlib.Core.List.{List, [], _∷_}
 use Prim.Native.Nat.{ℕ, zero, suc, _+_, _-_, _*_, _/_, _<_, _≤_}
@@ -20,7 +20,7 @@ use Rattle.effects.specs.Effect.{withPointer, movedOf, isWrite, statusOf}
 use Rattle.controller.specs.Types.{Auto, Off, Write, Read, Up}
 use Rattle.controller.specs.Access.{Pair, Step, done, answered, refused, dataReadOf, stepOf}
 use Rattle.controller.specs.Run.{Standing, Turn, went, halted, turnOf, runFrom, pairsOf}
-use Rattle.controller.specs.Skip.{Skipping, passedBy, skipBy, skipStep, ranOnAll, ranOnOf}
+use Rattle.controller.specs.Skip.{Skipping, passedBy, skipBy, skipStep}
 use Rattle.controller.specs.Ready.{NotedAll, notedAll, notedOf, pairsFrom, dataOf}
 use Rattle.controller.proofs.Blocks.{pairAt, pairs-behind, write-only}
 use Rattle.controller.proofs.Splits.{projected}
@@ -29,8 +29,8 @@ use Rattle.controller.proofs.Goings.{Leaves, Going, going, going-ends, going-ha
 use Rattle.controller.proofs.Turns.{Answering, answers, declines, Acting, acts, refuses, step-answering, step-acting, step-number}
 use Rattle.watch.specs.Types.{Panel, Display, Registers, Acted, RanOn, FlagTurn, Quick, Noted}
 use Rattle.flags.specs.Flags.{sameDisplay, flagsAfter, Flagged, withFlags, flagBy, flagStep}
-use Rattle.flags.specs.Follow.{Followed, followed, followedBy, followedOf, followOf}
-use Rattle.watch.specs.Watched.{RanFlags, ranFlags, ranFlagsOf}
+use Rattle.flags.specs.Follow.{followed, followedBy, followedOf, followOf}
+use Rattle.watch.specs.Watched.{ranFlags, ranFlagsOf}
 use Rattle.touch.specs.Marked.{markedOf}
 use Rattle.flags.specs.Ready.{Following}
 use Rattle.flags.proofs.Follows.{marked-is, flags-after-is}

@@ -16,8 +16,8 @@ use Rattle.controller.specs.Access.{stepOf}
 use Rattle.controller.specs.Run.{pairsOf, runFrom, RanAll, ranAll, ranOf, ranNone, stoppingOf}
 use Rattle.controller.specs.Ready.{standing}
 use Rattle.playback.specs.declared.play.Played.{Played}
-use Rattle.playback.specs.Play.{PlayedAll, playedAll, playOf}
-use Rattle.playback.specs.Parts.{Part, logOfParts, Cut, none, one, PartsGathered, gather, playParts, begun, wholeRun}
+use Rattle.playback.specs.Play.{playedAll, playOf}
+use Rattle.playback.specs.Parts.{Part, logOfParts, Cut, none, one, PartsGathered, playParts, begun, wholeRun}
 use Rattle.playback.proofs.Parted.{part-by-part}
 use Rattle.state.specs.declared.panel.Panel.{Panel}
 use Rattle.state.specs.declared.registers.Registers.{Registers}

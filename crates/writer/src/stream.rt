@@ -1,15 +1,14 @@
 // The pairs of an operation, and of a body.
 ghost use mathlib.Core.Path.{_≡_};
 ghost use mathlib.Core.Bool.{cond, true};
-ghost use mathlib.Core.List.{[], _∷_};
-ghost use Prim.Native.Nat.{_+_, _-_, _*_, _≤_};
+ghost use Prim.Native.Nat.{_+_, _-_, _*_};
 ghost use lib.ListN.{take, drop};
 ghost use Rattle.state.specs.State.{validPanel};
 ghost use Rattle.book.specs.Operation.{dotBit, operationOf, text, dot, cursor};
 ghost use Rattle.book.specs.Pairs.{placedPairs};
 ghost use Rattle.book.specs.Range.{InRange, TextRange, RectangleRange, DotRange, GlyphRange, CursorRange};
 ghost use Rattle.book.specs.Screen.{operationsFrom};
-ghost use Rattle.writer.specs.Stream.{datum, code, block, glyphHome, rowBlocks, combinationCode, operationPairs, bodyPairs};
+ghost use Rattle.writer.specs.Stream.{block, glyphHome, rowBlocks, combinationCode, operationPairs, bodyPairs};
 ghost use Rattle.writer.specs.Put.{PairsPut, RoomFor, operationsIn, Roomy, WritableBody};
 use super::homes::Homes;
 use super::homes::text_home;

@@ -9,19 +9,18 @@ use lib.Dec.{eqb, leb, ltb}
 use lib.ListN.{length, getD, set}
 use lib.Seq.{sets}
 use borrow.Author.Tests.{eqb-true, eqb-false}
-use Rattle.state.specs.State.{validRegisters}
-use Rattle.codes.specs.Command.{neededOf, isOff, endsAuto, decodeOf}
+use Rattle.codes.specs.Command.{neededOf, isOff, endsAuto}
 use Rattle.effects.specs.Machine.{Machine, machine, pointer}
 use Rattle.controller.specs.Types.{Auto, Off, Write, Read, Command, Load, Peek, Up, Down, Stay}
 use Rattle.controller.specs.Access.{Pair, code, Step, done, answered, refused, effectOf, dropped, obeyOf, dataReadOf, stepOf}
 use Rattle.controller.specs.Run.{pairsOf, Standing, went, halted, turnOf, afterTurn, whole, short, endNumber, Run, runFrom}
-use Rattle.controller.specs.Skip.{Skipping, passedBy, skipBy, skipStep, begunOn}
+use Rattle.controller.specs.Skip.{Skipping, passedBy, skipBy, skipStep}
 use Rattle.controller.proofs.Laws.{Sounds, sounds, step-sound, keepsMemory, memory-kept}
 use Rattle.controller.proofs.Goings.{Leaves}
-use Rattle.stores.specs.Stores.{storesOf, fromAddress}
+use Rattle.stores.specs.Stores.{storesOf}
 use Rattle.stores.proofs.Stored.{Stored, step-stores}
-use Rattle.writers.specs.Types.{Panel, Registers}
-use Rattle.writers.specs.Stretch.{Store, inStretch, storeAt, storesIn}
+use Rattle.noting.specs.Stretch.{Store, inStretch, storeAt, storesIn}
+use Rattle.writers.specs.Types.{Panel}
 use Rattle.writers.specs.Listing.{Listing, listing, listedBy, listBy, listStep, begunList}
 use Rattle.writers.specs.Claims.{NoneAt, none, other, LastAt, here, later, Accounts, kept, wrote, WhoWrote, Reads, datum-read, status-read, peek, load-up, load-down, load-stay, Unwritten, ReadsWriteNothing, RefusedWritesNothing, Ordinary}
 

@@ -1,11 +1,11 @@
 -- A log followed pair by pair: what is left from here comes to the whole, and the list holds the stores so far.
 use mathlib.Core.Path.{_≡_, refl, ap, sym, subst, _∙_}
 use mathlib.Core.Bool.{Bool, true, false, cond, not, _&&_, _||_, false≢true}
-use mathlib.Core.List.{List, [], _∷_, _++_}
+use mathlib.Core.List.{List, [], _++_}
 use Prim.Native.Nat.{ℕ, zero, suc, _+_, _-_, _*_, _/_, _%_, _^_, _<_, _≤_}
 use native.Mathlib.Omega.{arith}
 use lib.Dec.{eqb, leb, ltb}
-use lib.ListN.{length, getD, take, drop, set}
+use lib.ListN.{length, getD, take, set}
 use lib.Seq.{sets, take-all, getD-set-same}
 use borrow.Author.Tests.{eq-eqb, ne-eqb, eqb-true, le-leb, lt-leb, leb-true, leb-false, ltb-true}
 use Rattle.ground.proofs.Tests.{both, both-left, both-right, settled}
@@ -16,7 +16,7 @@ use Rattle.effects.specs.Machine.{Machine, machine}
 use Rattle.effects.specs.Effect.{withPointer, withPending, withAuto, withPhase, pushed, movedOf, isWrite, isRead}
 use Rattle.controller.specs.Types.{Up}
 use Rattle.controller.specs.Access.{Pair, Step, done, answered, refused, dataWriteOf, dataReadOf, stepOf}
-use Rattle.controller.specs.Run.{pairsOf, Standing, End, whole, runFrom}
+use Rattle.controller.specs.Run.{pairsOf, Standing, runFrom}
 use Rattle.controller.specs.Run as run
 use Rattle.controller.specs.Ready.{Runs}
 use Rattle.controller.proofs.Blocks.{pairAt, write-only}
@@ -27,14 +27,17 @@ use Rattle.controller.proofs.Runs.{pairs-length}
 use Rattle.usual.specs.Ready.{Draws}
 use Rattle.usual.proofs.Tells.{leaves}
 use Rattle.stores.specs.Stores.{codeStores, storesOf, fromAddress}
+use Rattle.noting.specs.Stretch as stretch
+use Rattle.noting.specs.Stretch.{store, storeAt, storesIn, storeNumbers}
+use Rattle.noting.specs.Noted.{roomOf, capped, Noting, noting, notedBy, notedEach}
+use Rattle.noting.specs.Laid.{laid, datumAt, Lays}
+use Rattle.noting.proofs.Notes.{notes-none, notes-one, capped-least}
+use Rattle.noting.proofs.Singly.{none-below}
 use Rattle.writers.specs.Types.{Panel, Display, Auto, Off, Write, Read, Bus, Registers, Drawn, Listed, Said}
-use Rattle.writers.specs.Stretch as stretch
-use Rattle.writers.specs.Stretch.{store, inStretch, storeAt, storesIn, storeNumbers}
-use Rattle.writers.specs.Listing.{Listing, listing, listedBy, listBy, listStep, begunList}
-use Rattle.writers.specs.Listed.{ListedAll, listedAll, unlisted, roomOf, capped, listedOf, listOf}
-use Rattle.writers.specs.Ready.{Noting, noting, notedBy, notedEach, laid, datumAt, Lays, Says, Behind, behind, behindBy, endedOf}
-use Rattle.writers.proofs.Notes.{Holds, holds-none, holds-all, notes-none, notes-one, capped-least}
-use Rattle.writers.proofs.Singly.{none-below}
+use Rattle.writers.specs.Listing.{Listing, listing, listBy, listStep, begunList}
+use Rattle.writers.specs.Listed.{ListedAll, listedAll, unlisted, listedOf, listOf}
+use Rattle.writers.specs.Ready.{Says, Behind, behind, behindBy, endedOf}
+use Rattle.writers.proofs.Holds.{Holds, holds-none, holds-all}
 
 -- what is kept: a sound controller
 pub record Listable (s : Listing) : Type 0 where

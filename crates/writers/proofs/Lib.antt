@@ -1,6 +1,5 @@
-pub mod Notes
-pub mod Laying
-pub mod Singly
+pub mod Holding
+pub mod Holds
 pub mod Throughs
 pub mod Follows
 pub mod Claimed

@@ -2,15 +2,15 @@
 use mathlib.Core.Path.{_≡_, refl, ap, sym, subst, _∙_}
 use mathlib.Core.Bool.{Bool, true, false, cond, not, _&&_, _||_, true≢false, false≢true}
 use mathlib.Core.List.{List}
-use Prim.Native.Nat.{ℕ, _+_, _-_, _/_, _%_, _<_, _≤_}
+use Prim.Native.Nat.{ℕ, _-_, _/_, _≤_}
 use native.Mathlib.Omega.{arith}
 use lib.Dec.{eqb}
-use lib.ListN.{length, getD}
+use lib.ListN.{getD}
 use borrow.Author.Tests.{eq-eqb, not-true}
 use Rattle.ground.proofs.Tests.{both-left, both-right}
 use Rattle.state.specs.State.{validPanel}
 use Rattle.state.specs.Combination.{isAttribute}
-use Rattle.state.proofs.Valid.{Panelled, panelled}
+use Rattle.state.proofs.Valid.{panelled}
 use Rattle.codes.specs.Command.{decodeOf}
 use Rattle.effects.specs.Machine.{Machine, machine}
 use Rattle.effects.specs.Effect.{isWrite}
@@ -22,10 +22,12 @@ use Rattle.controller.proofs.Readied.{access-runs}
 use Rattle.controller.proofs.Turns.{step-number}
 use Rattle.usual.specs.Ready.{Tells}
 use Rattle.stores.specs.Stores.{copyStores, commandStores, codeStores, storesOf, storesAsked, fromAddress}
-use Rattle.writers.specs.Types.{Panel, Display, Bus, Registers, Acted, Told, Said}
-use Rattle.writers.specs.Stretch.{store, storeAt}
-use Rattle.writers.specs.Ready.{Noting, noting, notedEach, Held, Noted, Says, Behind, behind, behindBy}
-use Rattle.writers.proofs.Notes.{notes-same, storesBy}
+use Rattle.noting.specs.Stretch.{store, storeAt}
+use Rattle.noting.specs.Noted.{Noting, noting, notedEach, SingleNoted}
+use Rattle.noting.proofs.Notes.{notes-same}
+use Rattle.writers.specs.Types.{Panel, Bus, Registers, Acted, Told}
+use Rattle.writers.specs.Ready.{Held, Says, Behind, behind, behindBy}
+use Rattle.writers.proofs.Holding.{storesBy}
 
 -- a pair stores at most eighty bytes
 stores-few : (p : Panel) → validPanel p ≡ true → (r : Registers) (q : Pair) → storesOf p r q ≤ 80
@@ -71,7 +73,7 @@ stores-few p v r q = go (eqb (q .kind) 0) (eqb (q .kind) 1)
 module _ {first last pair : ℕ} {b : Bus} {mem : List ℕ} {still : Bool} {k : ℕ} {told : Told} {after : List ℕ}
     (t : Tells b mem (still && not (eqb (k / 16) 14)) k told after) {count : ℕ} {list : List ℕ} where
   pub says-done : told .done ≡ true → {was : ℕ} → was ≡ getD mem (b .pointer) 0 → {next : ℕ} {list′ : List ℕ}
-      → Noted first last k (store pair (b .pointer) was (getD after (b .pointer) 0)) (noting count list) (noting next list′)
+      → SingleNoted first last k (store pair (b .pointer) was (getD after (b .pointer) 0)) (noting count list) (noting next list′)
       → Says first last pair b mem still k (noting count list) (record { bus = told .bus; count = next; done = true }) after list′
   says-done d {was} w {next} {list′} n =
       record {

@@ -1,5 +1,5 @@
 -- What the list says of memory: who wrote there, and that reads write nothing.
-use Prim.Native.Nat.{ℕ, _+_, _<_}
+use Prim.Native.Nat.{ℕ, _+_}
 use mathlib.Core.Path.{_≡_}
 use mathlib.Core.Bool.{true}
 use mathlib.Core.List.{List, [], _∷_}
@@ -8,8 +8,8 @@ use Rattle.state.specs.State.{validRegisters}
 use Rattle.controller.specs.Access.{Pair, code, done, refused, stepOf}
 use Rattle.controller.specs.Run.{pairsOf, whole, runFrom}
 use Rattle.controller.specs.Skip.{skipStep, begunOn}
+use Rattle.noting.specs.Stretch.{Store, inStretch}
 use Rattle.writers.specs.Types.{Panel, Registers}
-use Rattle.writers.specs.Stretch.{Store, inStretch}
 use Rattle.writers.specs.Listing.{Listing, listing, listStep, begunList}
 
 -- no entry has an address

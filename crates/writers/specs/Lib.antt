@@ -1,5 +1,4 @@
 pub mod Types
-pub mod Stretch
 pub mod Listing
 pub mod Listed
 pub mod Ready

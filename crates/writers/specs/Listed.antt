@@ -1,15 +1,16 @@
 -- Who wrote there: what listing the stores into a stretch answers.
-use Prim.Native.Nat.{ℕ, _/_, _%_, _^_, _-_}
+use Prim.Native.Nat.{ℕ, _/_, _%_}
 use mathlib.Core.Bool.{cond, _&&_}
 use mathlib.Core.List.{List}
-use lib.Dec.{leb, ltb, eqb}
+use lib.Dec.{leb, eqb}
 use lib.ListN.{length, take}
 use lib.Seq.{sets}
 use Rattle.state.specs.State.{validPanel, validRegisters}
 use Rattle.display.specs.Frame.{lentLengths}
 use Rattle.controller.specs.Run.{pairsOf, runFrom}
+use Rattle.noting.specs.Stretch.{storeNumbers}
+use Rattle.noting.specs.Noted.{roomOf, capped}
 use Rattle.writers.specs.Types.{Panel, Registers, Listed}
-use Rattle.writers.specs.Stretch.{Store, storeNumbers}
 use Rattle.writers.specs.Listing.{Listing, listStep, begunList}
 
 -- a reply, the display memory and the list then
@@ -24,14 +25,6 @@ listedAll listed memory list = record { listed = listed; memory = memory; list =
 -- nothing is run, nothing listed
 abbrev pub unlisted : ℕ → ℕ → Registers → Listed
 unlisted n place r = record { registers = r; number = n; place = place; count = 0 }
-
--- entries there is room for, four numbers each
-abbrev pub roomOf : List ℕ → ℕ
-roomOf list = length list / 4
-
--- a number of entries as 64 bits say it, which no log reaches
-abbrev pub capped : ℕ → ℕ
-capped n = cond (ltb n (2 ^ 64)) n (2 ^ 64 - 1)
 
 -- every store, at the list's start; 15 where they don't fit, with the entries needed, and then the first ones, as many as there is room for
 abbrev pub listedOf : List ℕ → Listing → ListedAll

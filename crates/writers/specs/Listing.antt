@@ -5,8 +5,8 @@ use Rattle.effects.specs.Machine.{Machine, machine}
 use Rattle.controller.specs.Access.{Pair, Step, done, answered, refused, stepOf}
 use Rattle.controller.specs.Run.{Standing}
 use Rattle.stores.specs.Stores.{storesOf}
+use Rattle.noting.specs.Stretch.{Store, storeAt, storesIn}
 use Rattle.writers.specs.Types.{Panel, Registers}
-use Rattle.writers.specs.Stretch.{Store, storeAt, storesIn}
 
 -- the controller, the stores listed so far, the pair to come
 pub record Listing : Type 0 where

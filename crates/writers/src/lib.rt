@@ -1,5 +1,4 @@
 // Who wrote there: the stores of a log into a stretch of memory.
-mod block;
+mod held;
 pub mod list;
-mod note;
 mod pair;

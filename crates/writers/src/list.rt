@@ -7,17 +7,17 @@ ghost use Rattle.controller.specs.Ready.{Runs};
 ghost use Rattle.writers.specs.Listing.{listStep, begunList};
 ghost use Rattle.writers.specs.Listed.{unlisted, listedAll, listedOf, listOf};
 ghost use Rattle.writers.specs.Ready.{endedOf};
-use super::block::lay;
-use super::block::passed;
 use super::pair::say;
 use super::pair::through;
 use codes::command::is_off;
 use effects::effect::is_read;
 use effects::effect::is_write;
+use noting::block::lay;
 use state::panel::Panel;
 use state::registers::Bus;
 use state::registers::Display;
 use state::registers::Registers;
+use turns::block::passed;
 use usual::draw::draw;
 use usual::part::datum;
 use usual::part::emptied;
@@ -90,17 +90,7 @@ fn follow(
         let byte = log[2 * pair + 1];
         let auto = bus.auto;
         if (kind == 0) & is_write(auto) {
-            let laid = lay(
-                mem,
-                list,
-                count,
-                log,
-                pair,
-                total - pair,
-                bus.pointer,
-                first,
-                last,
-            );
+            let laid = lay(mem, list, count, log, pair, total, bus.pointer, first, last);
             bus = passed(bus, laid.pairs);
             count = laid.count;
             i = pair + laid.pairs;

@@ -4,10 +4,11 @@ ghost use lib.ListN.{length};
 ghost use Rattle.effects.specs.Machine.{machine};
 ghost use Rattle.controller.specs.Access.{stepOf};
 ghost use Rattle.controller.specs.Ready.{Runs};
-ghost use Rattle.writers.specs.Ready.{noting, Says, behind, behindBy};
-use super::note::hold;
-use super::note::note_all;
-use super::note::note_one;
+ghost use Rattle.noting.specs.Noted.{noting};
+ghost use Rattle.writers.specs.Ready.{Says, behind, behindBy};
+use super::held::hold;
+use super::held::note_all;
+use noting::note::note_one;
 use single::access::access;
 use state::panel::Panel;
 use state::registers::Bus;
@@ -48,7 +49,18 @@ pub(crate) fn say(
     let was = mem[bus.pointer as usize];
     let told = tell(bus, mem, quiet & (code / 16 != 14), code);
     if told.done {
-        let noted = note_one(list, count, pair, bus.pointer, was, mem, code, first, last);
+        let after = mem[bus.pointer as usize];
+        let noted = note_one(
+            list,
+            count,
+            pair,
+            bus.pointer,
+            was,
+            after,
+            code,
+            first,
+            last,
+        );
         let next = told.bus;
         return Said {
             bus: next,

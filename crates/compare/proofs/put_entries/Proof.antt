@@ -1,6 +1,5 @@
 -- `put_entries` is safe: an entry is three numbers of the list.
 use Prim.Native.Nat.{_-_, _≤_}
-use native.Mathlib.Omega.{arith}
 use borrow.Author.Needs.{needs}
 use Rattle.compare.proofs.put_entries.Statement.{statement}
 use Rattle.compare.proofs.put_entries.Tie as tie

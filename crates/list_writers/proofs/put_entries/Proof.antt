@@ -1,9 +1,5 @@
 -- `put_entries` is safe.
 use Prim.Native.Nat.{_-_, _≤_}
-use mathlib.Core.Path.{_≡_, refl, sym}
-use native.Mathlib.Omega.{arith}
-use lib.ListN.{length}
-use lib.Seq.{length-take-le}
 use borrow.Author.Needs.{needs}
 use Rattle.list_writers.proofs.put_entries.Statement.{statement}
 use Rattle.list_writers.proofs.put_entries.Tie as tie

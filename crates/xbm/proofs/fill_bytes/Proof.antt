@@ -1,7 +1,6 @@
 -- `fill_bytes` meets its contract: twelve bytes and the end take at most the line's eighty.
 use Prim.Native.Nat.{_-_, _≤_}
 use mathlib.Core.Path.{_≡_}
-use native.Mathlib.Omega.{arith}
 use lib.ListN.{length}
 use borrow.Author.Needs.{needs}
 use Rattle.xbm.proofs.fill_bytes.Statement.{statement}

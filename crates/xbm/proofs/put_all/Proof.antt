@@ -1,6 +1,5 @@
 -- `put_all` is safe: each line takes what is left, at most twelve bytes.
 use Prim.Native.Nat.{_-_, _≤_}
-use native.Mathlib.Omega.{arith}
 use lib.ListN.{length}
 use borrow.Author.Needs.{needs}
 use Rattle.xbm.proofs.put_all.Statement.{statement}

@@ -1,5 +1,4 @@
 -- `spread` meets its contract: what is left to spread always comes to the whole.
-use borrow.Author.Needs.{needs}
 use native.Mathlib.Omega.{arith}
 use lib.ListN.{length-set}
 use Rattle.asking.proofs.Spreads.{Spreading, spreading, spreading-on, spreading-ends}

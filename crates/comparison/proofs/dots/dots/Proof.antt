@@ -1,10 +1,8 @@
 -- `dots` meets its contract: row by row.
-use mathlib.Core.Path.{_≡_, refl}
 use Prim.Native.Nat.{_-_, _≤_}
 use native.Mathlib.Omega.{arith}
 use Rattle.state.proofs.Sizes.{lines-few}
 use Rattle.comparison.proofs.Aparts.{Adding, adding, row-few, adds-on, added-all}
-use borrow.Author.Needs.{needs}
 use Rattle.comparison.proofs.dots.dots.Statement.{statement}
 use Rattle.comparison.proofs.dots.dots.Tie as tie
 

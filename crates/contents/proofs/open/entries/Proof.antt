@@ -1,6 +1,5 @@
 -- `entries` meets its contract: what is left of the entries is taken as the whole.
 use Prim.Native.Nat.{_-_}
-use Rattle.contents.proofs.Entries.{at-few}
 use Rattle.contents.proofs.Opening.{Opening, opening-starts, opening-room, opening-wrong, opening-on, opening-ends}
 use borrow.Author.Needs.{needs}
 use native.Mathlib.Omega.{arith}

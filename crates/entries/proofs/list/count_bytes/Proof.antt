@@ -1,8 +1,6 @@
 -- `count_bytes` meets its contract: place by place.
-use mathlib.Core.Path.{refl}
 use Prim.Native.Nat.{_-_}
 use native.Mathlib.Omega.{arith}
-use lib.ListN.{length}
 use Rattle.entries.proofs.Listings.{Counting, counting, counts-on, counted-all}
 use borrow.Author.Needs.{needs}
 use Rattle.entries.proofs.list.count_bytes.Statement.{statement}

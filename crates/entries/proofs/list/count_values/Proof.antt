@@ -2,7 +2,6 @@
 use mathlib.Core.Path.{refl}
 use Prim.Native.Nat.{_-_}
 use native.Mathlib.Omega.{arith}
-use lib.ListN.{length}
 use Rattle.entries.proofs.Listings.{Counting, counting, counts-on, counted-all}
 use borrow.Author.Needs.{needs}
 use Rattle.entries.proofs.list.count_values.Statement.{statement}

@@ -1,5 +1,4 @@
 -- `differ` meets its contract.
-use mathlib.Core.Path.{ap, sym}
 use borrow.Author.Tests.{eq-eqb, ne-eqb}
 use borrow.Author.Needs.{needs}
 use Rattle.entries.proofs.list.differ.Statement.{statement}

@@ -1,5 +1,4 @@
 -- `list_bytes` meets its contract: place by place, an entry where they differ.
-use mathlib.Core.Path.{_≡_, refl, ap, sym, _∙_}
 use Prim.Native.Nat.{_-_}
 use native.Mathlib.Omega.{arith}
 use lib.ListN.{length}

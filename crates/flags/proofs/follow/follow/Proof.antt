@@ -1,5 +1,4 @@
 -- `follow` meets its contract: the pair done, then the rows that read what it stored.
-use mathlib.Core.Path.{sym, _∙_}
 use native.Mathlib.Omega.{arith}
 use Rattle.flags.proofs.Follows.{follows, left-alone}
 use borrow.Author.Needs.{needs}

@@ -1,5 +1,4 @@
 -- `marked` meets its contract: a marker above 1 leaves no lines.
-use Prim.Native.Nat.{ℕ}
 use mathlib.Core.Path.{sym}
 use mathlib.Core.Bool.{cond}
 use native.Mathlib.Omega.{arith}

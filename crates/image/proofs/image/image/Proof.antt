@@ -1,5 +1,5 @@
 -- `image` meets its contract, byte by byte.
-use Rattle.image.specs.Image.{bytesOf}
+use Rattle.image.proofs.Images.{bytes-are}
 use borrow.Author.Needs.{needs}
 use Rattle.image.proofs.image.image.Statement.{statement}
 use Rattle.image.proofs.image.image.Tie as tie
@@ -50,8 +50,7 @@ cast-t27 : tie.Need-cast-t27
 cast-t27 c = search needs
 
 returns : tie.Need-returns
-unfolding bytesOf
-returns c = rw (c .before .before .before .before .before .before .flag-byte7 .ensures, c .before .before .before .before .before .before .before .flag-byte6 .ensures, c .before .before .before .before .before .before .before .before .auto-byte .ensures, c .before .before .before .before .before .before .before .before .before .flag-byte5 .ensures, c .before .before .before .before .before .before .before .before .before .before .flag-byte4 .ensures, c .before .before .before .before .before .before .before .before .before .before .before .flag-byte3 .ensures, c .before .before .before .before .before .before .before .before .before .before .before .before .flag-byte2 .ensures, c .before .before .before .before .before .before .before .before .before .before .before .before .before .flag-byte .ensures, c .before .before .before .before .before .before .before .before .before .before .before .before .before .before .combination-byte .ensures)
+returns c = bytes-are (c .before .before .before .before .before .before .before .before .before .before .before .before .before .before .before .before .before .before .args .registers) (c .before .before .before .before .before .before .before .before .before .before .before .before .before .before .combination-byte .ensures) (c .before .before .before .before .before .before .before .before .before .before .before .before .before .flag-byte .ensures) (c .before .before .before .before .before .before .before .before .before .before .before .before .flag-byte2 .ensures) (c .before .before .before .before .before .before .before .before .before .before .before .flag-byte3 .ensures) (c .before .before .before .before .before .before .before .before .before .before .flag-byte4 .ensures) (c .before .before .before .before .before .before .before .before .before .flag-byte5 .ensures) (c .before .before .before .before .before .before .before .before .auto-byte .ensures) (c .before .before .before .before .before .before .before .flag-byte6 .ensures) (c .before .before .before .before .before .before .flag-byte7 .ensures)
 
 pub image-spec : {M : Type 1} → statement M
 image-spec =

@@ -1,6 +1,4 @@
 -- `by_code` meets its contract: a code is first taken apart.
-use mathlib.Core.Path.{ap, sym, _∙_}
-use Rattle.stores.specs.Stores.{codeStores}
 use borrow.Author.Needs.{needs}
 use Rattle.stores.proofs.stores.by_code.Statement.{statement}
 use Rattle.stores.proofs.stores.by_code.Tie as tie

@@ -1,5 +1,5 @@
 -- `glyph_flag` meets its contract.
-use mathlib.Core.Path.{_≡_, refl, ap, sym, subst, _∙_}
+use mathlib.Core.Path.{_≡_, refl, ap, sym, _∙_}
 use mathlib.Core.Bool.{Bool, true, false, cond}
 use Prim.Native.Nat.{ℕ}
 use Rattle.touch.specs.Ready.{glyphMeets, keptFlag}

@@ -1,6 +1,5 @@
 -- `glyphs` meets its contract: looked for, or not there.
 use mathlib.Core.Path.{_∙_}
-use mathlib.Core.Bool.{Bool, false, _&&_}
 use native.Mathlib.Omega.{arith}
 use Rattle.touch.specs.Ready.{lineMeets}
 use Rattle.touch.proofs.Meets.{line-glyphs, none-next}

@@ -1,5 +1,5 @@
 -- `mark_glyphs` meets its contract: row by row.
-use Prim.Native.Nat.{ℕ, _-_}
+use Prim.Native.Nat.{_-_}
 use native.Mathlib.Omega.{arith}
 use Rattle.ground.proofs.Filling.{Filled, none-yet, as-long}
 use Rattle.touch.specs.Ready.{glyphMeets}

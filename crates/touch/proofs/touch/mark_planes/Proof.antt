@@ -1,5 +1,4 @@
 -- `mark_planes` meets its contract: row by row.
-use mathlib.Core.Bool.{Bool}
 use Prim.Native.Nat.{_-_}
 use native.Mathlib.Omega.{arith}
 use Rattle.ground.proofs.Filling.{Filled, none-yet, as-long}

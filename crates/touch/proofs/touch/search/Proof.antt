@@ -1,10 +1,6 @@
 -- `search` meets its contract: cell by cell, none of them so far.
-use mathlib.Core.Path.{ap, refl, sym, _∙_}
-use mathlib.Core.Bool.{Bool, false, _||_}
-use Prim.Native.Nat.{ℕ, _-_, _≤_, _/_, _%_}
+use Prim.Native.Nat.{_-_, _≤_}
 use native.Mathlib.Omega.{arith}
-use Rattle.display.specs.Displayed.{textCode}
-use Rattle.touch.specs.Ready.{codeMeets}
 use Rattle.touch.proofs.Searched.{Unmet, unmet, unmet-on, unmet-hit, unmet-all}
 use borrow.Author.Needs.{needs}
 use Rattle.touch.proofs.touch.search.Statement.{statement}

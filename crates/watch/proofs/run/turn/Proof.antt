@@ -1,8 +1,6 @@
 -- `turn` meets its contract: no room, an answer, or anything else.
-use mathlib.Core.Path.{sym, _∙_}
 use native.Mathlib.Omega.{arith}
 use lib.ListN.{length}
-use Prim.Native.Nat.{_<_}
 use lib.Dec.{eqb}
 use mathlib.Core.Bool.{_||_}
 use borrow.Author.Tests.{eqb-true, lt-ltb}

@@ -3,6 +3,7 @@ use Prim.Native.Nat.{_-_}
 use mathlib.Core.Path.{sym, _∙_}
 use native.Mathlib.Omega.{arith}
 use borrow.Author.Needs.{needs}
+use Rattle.controller.proofs.Blocks.{nearly}
 use Rattle.controller.proofs.Readied.{runs-lengths}
 use Rattle.writers.specs.Listing.{begunList}
 use Rattle.writers.proofs.Follows.{Following, following, memory-long, kept-on, list-long, still-runs, data-goes, follows-data, follows-push, follows-idle, follows-said, follows-draw, follows-leave, follows-read, follows-tick, follows-through, ends}
@@ -39,23 +40,20 @@ shared-slice-read-byte c = omega (arith, c .before .before .loop-test .taken)
 is-write-requires : tie.Need-is-write-requires Inv-loop μ-loop
 is-write-requires c κs = search needs
 
-sub-lay : tie.Need-sub-lay Inv-loop μ-loop
-sub-lay c = omega (arith, c .before .before .before .before .before .before .loop-test .taken)
-
 lay-requires : tie.Need-lay-requires Inv-loop μ-loop
-lay-requires c κs = (memory-long (c .before .before .before .before .before .before .before .loop .inv), omega (arith, c .before .before .before .before .before .before .loop-test .taken))
+lay-requires c κs = search needs
 
 passed-requires : tie.Need-passed-requires Inv-loop μ-loop
 passed-requires c κs = search needs
 
 add-i-2 : tie.Need-add-i-2 Inv-loop μ-loop
-add-i-2 c = omega (arith, c .before .before .before .before .before .before .lay .ensures .blocks .few, c .before .before .before .before .before .before .before .before .before .before .before .before .before .loop-test .taken, c .before .before .before .before .before .before .before .before .before .before .before .before .before .before .before .before .before .before .before .good)
+add-i-2 c = let b = ((c .before .before .before .before .before .before .lay .ensures) (memory-long (c .before .before .before .before .before .before .before .before .before .before .before .before .before .before .loop .inv)) (omega arith) (nearly (c .before .before .before .before .before .before .before .before .before .before .before .before .before .loop-test .taken))) in omega (arith, b .blocks .few, (c .before .before .before .before .before .before .before .before .before .before .before .before .before .loop-test .taken), (c .before .before .before .before .before .before .before .before .before .before .before .before .before .before .before .before .before .before .before .good))
 
 loop-less : tie.Need-loop-less Inv-loop μ-loop
-loop-less c = let h = data-goes (c .before .before .before .before .before .before .lay .ensures) (c .before .before .before .before .before .before .before .before .before .before .is-write .result) (c .before .before .before .before .before .before .before .before .before .if1 .taken) (omega (arith, c .before .before .before .before .before .before .before .before .before .before .before .before .before .loop-test .taken)) in omega (arith, h, c .before .before .before .before .before .before .lay .ensures .blocks .few, c .before .before .before .before .before .before .before .before .before .before .before .before .before .loop-test .taken)
+loop-less c = let b = ((c .before .before .before .before .before .before .lay .ensures) (memory-long (c .before .before .before .before .before .before .before .before .before .before .before .before .before .before .loop .inv)) (omega arith) (nearly (c .before .before .before .before .before .before .before .before .before .before .before .before .before .loop-test .taken))) in let h = data-goes b (c .before .before .before .before .before .before .before .before .before .before .is-write .result) (c .before .before .before .before .before .before .before .before .before .if1 .taken) (omega (arith, (c .before .before .before .before .before .before .before .before .before .before .before .before .before .loop-test .taken))) in omega (arith, h, b .blocks .few, (c .before .before .before .before .before .before .before .before .before .before .before .before .before .loop-test .taken))
 
 loop-again : tie.Need-loop-again Inv-loop μ-loop
-loop-again c = follows-data (c .before .before .before .before .before .before .before .before .before .before .before .before .before .before .loop .inv) (omega arith) (c .before .before .before .before .before .before .before .before .before .before .is-write .ensures) (c .before .before .before .before .before .before .before .before .before .if1 .taken) (omega (arith, c .before .before .before .before .before .before .before .before .before .before .before .before .before .loop-test .taken)) (c .before .before .before .before .before .before .lay .ensures) (c .before .passed .ensures)
+loop-again c = follows-data (c .before .before .before .before .before .before .before .before .before .before .before .before .before .before .loop .inv) (omega arith) (c .before .before .before .before .before .before .before .before .before .before .is-write .ensures) (c .before .before .before .before .before .before .before .before .before .if1 .taken) (omega (arith, (c .before .before .before .before .before .before .before .before .before .before .before .before .before .loop-test .taken))) ((c .before .before .before .before .before .before .lay .ensures) (memory-long (c .before .before .before .before .before .before .before .before .before .before .before .before .before .before .loop .inv)) (omega arith) (nearly (c .before .before .before .before .before .before .before .before .before .before .before .before .before .loop-test .taken))) (c .before .passed .ensures)
 
 is-off-requires : tie.Need-is-off-requires Inv-loop μ-loop
 is-off-requires c κs = search needs
@@ -161,7 +159,6 @@ follow-spec =
     add-byte
     shared-slice-read-byte
     is-write-requires
-    sub-lay
     lay-requires
     passed-requires
     add-i-2

@@ -15,6 +15,12 @@ slice-read-was c = omega (arith, c .before .before .before .before .pre)
 tell-requires : tie.Need-tell-requires
 tell-requires c κs = search needs
 
+cast-after : tie.Need-cast-after
+cast-after c = search needs
+
+slice-read-after : tie.Need-slice-read-after
+slice-read-after c = omega (arith, (c .before .before .before .before .mem .given), (c .before .before .before .before .before .before .before .before .before .before .before .pre))
+
 note-one-requires : tie.Need-note-one-requires
 note-one-requires c κs = search needs
 
@@ -25,7 +31,7 @@ same-length-2 : tie.Need-same-length-2
 same-length-2 c = search needs
 
 returns : tie.Need-returns
-returns c = says-done (c .before .before .before .before .before .before .before .before .before .tell .ensures) (c .before .before .before .before .before .before .if1 .taken) refl (c .before .before .before .note-one .ensures)
+returns c = says-done (c .before .before .before .before .before .before .before .before .before .before .tell .ensures) (c .before .before .before .before .before .before .before .if1 .taken) refl (c .before .before .before .note-one .ensures)
 
 same-length-3 : tie.Need-same-length-3
 same-length-3 c = search needs
@@ -40,6 +46,8 @@ say-spec =
     cast-was
     slice-read-was
     tell-requires
+    cast-after
+    slice-read-after
     note-one-requires
     same-length
     same-length-2

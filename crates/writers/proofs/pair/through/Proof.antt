@@ -1,5 +1,5 @@
 -- `through` meets its contract: accepted, or refused.
-use mathlib.Core.Path.{sym, _∙_}
+use mathlib.Core.Path.{sym}
 use native.Mathlib.Omega.{arith}
 use borrow.Author.Needs.{needs}
 use Rattle.controller.proofs.Readied.{runs-lengths}

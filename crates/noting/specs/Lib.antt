@@ -1,0 +1,4 @@
+pub mod Types
+pub mod Stretch
+pub mod Noted
+pub mod Laid
