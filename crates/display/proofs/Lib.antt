@@ -3,6 +3,8 @@ pub mod Bounds
 pub mod Cases
 pub mod Doors
 pub mod Dots
+pub mod Flagged
+pub mod Fonts
 pub mod OneRows
 pub mod Painted
 pub mod Passes

@@ -3,7 +3,7 @@ use mathlib.Core.Path.{_≡_, refl, ap, sym, _∙_}
 use mathlib.Core.Bool.{Bool, true, false, cond, not, _&&_, true≢false}
 use mathlib.Core.List.{List, _++_}
 use mathlib.Core.Logic.{_⊎_, ⊎-elim}
-use Prim.Native.Nat.{ℕ, _+_, _-_, _/_, _%_, _^_, _<_, _≤_, min}
+use Prim.Native.Nat.{ℕ, _+_, _-_, _*_, _/_, _%_, _^_, _<_, _≤_, min}
 use native.Mathlib.Nat.{mod-eq-of-lt}
 use native.Mathlib.Decide.{ℕ-discrete}
 use native.Mathlib.Omega.{arith}
@@ -28,6 +28,14 @@ use Rattle.display.specs.Displayed.{addressOf, attributeByte, mixed, gly
 use Rattle.state.specs.Attribute.{lookOf, shownAs, attributed, shadesOf}
 use Rattle.state.specs.Combination.{isAttribute}
 
+-- what is not written yet is as it was
+pub unwritten : (f : ℕ → ℕ) (l₀ : List ℕ) {l : List ℕ} {n : ℕ} → Filled f l₀ l n → getD l n 0 ≡ getD l₀ n 0
+unwritten f l₀ {l} {n} k =
+    ap (λ (x : List ℕ). getD x n 0) (k .holds)
+    ∙ ap (λ (m : ℕ). getD (build n f ++ drop n l₀) m 0) (omega (arith, build-length n f))
+    ∙ getD-append-add (build n f) (drop n l₀) 0 0 ∙ getD-drop n l₀ 0 0
+    ∙ ap (λ (m : ℕ). getD l₀ m 0) (omega arith)
+
 -- a pass: the cells filled up to n by a rule, the layer's address at cell n
 pub record Going (f : ℕ → ℕ) (start : ℕ) (l₀ l : List ℕ) (at n : ℕ) : Type 0 where
   pub filled : Filled f l₀ l n
@@ -43,11 +51,11 @@ module _ (f : ℕ → ℕ) (start : ℕ) (l₀ : List ℕ) where
 
     -- what is read where the next is written is as it was
     pub still : getD l n 0 ≡ getD l₀ n 0
-    still =
-        ap (λ (x : List ℕ). getD x n 0) (k .filled .holds)
-        ∙ ap (λ (m : ℕ). getD (build n f ++ drop n l₀) m 0) (omega (arith, build-length n f))
-        ∙ getD-append-add (build n f) (drop n l₀) 0 0 ∙ getD-drop n l₀ 0 0
-        ∙ ap (λ (m : ℕ). getD l₀ m 0) (omega arith)
+    still = unwritten f l₀ (k .filled)
+
+-- codes in cells, and what a font has for them in dot row v
+abbrev pub glyphIn : ℕ → List ℕ → ℕ → List ℕ → ℕ → ℕ
+glyphIn w font v cells n = getD font (8 * getD cells n 0 + v) 0 % 2 ^ w
 
 -- a cell of a row that a rule has made
 pub of-rule : (g : ℕ → ℕ) {l : List ℕ} {n : ℕ} → l ≡ build (length l) g → n < length l → getD l n 0 ≡ g n

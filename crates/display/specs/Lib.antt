@@ -5,3 +5,4 @@ pub mod Drawable
 pub mod Shaded
 pub mod Layers
 pub mod OneRow
+pub mod Flagged

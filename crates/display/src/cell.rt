@@ -1,13 +1,12 @@
 // What the byte of a cell in a dot row is made of.
 ghost use mathlib.Core.Path.{_≡_};
-ghost use Prim.Native.Nat.{_≤_, _<_};
+ghost use Prim.Native.Nat.{_≤_};
 ghost use lib.ListN.{length, getD};
-ghost use Rattle.display.specs.Displayed.{addressOf, glyphRow, mixed, cursorLit, cursorCovers};
+ghost use Rattle.display.specs.Displayed.{addressOf, mixed, cursorLit, cursorCovers};
 use state::combination::combine;
 use state::panel::Panel;
 use state::registers::Combination;
 use state::registers::Cursor;
-use state::registers::Display;
 use state::registers::Plane;
 
 // Where text or graphic has the byte of a row in a column.
@@ -26,20 +25,6 @@ pub(crate) fn byte_at(mem: &[u8], address: u16) -> u8
 {
     let at = address as usize;
     mem[at]
-}
-
-// The glyph row of a code.
-pub(crate) fn glyph(display: Display, mem: &[u8], rom: &[u8], code: u8, v: usize) -> u8
-    requires { ⌜ (length (now mem) ≡ 65536) × (length (now rom) ≡ 1024) × (display .offset < 32) × (v < 8) ⌝ }
-    ensures { λ r. ⌜ r ≡ glyphRow display (now (mem .entry)) (now (rom .entry)) code v ⌝ }
-{
-    let k = code as usize;
-    if !display.external & (code < 128) {
-        let at = 8 * k + v;
-        return rom[at];
-    }
-    let from = 2048 * (display.offset as usize) + 8 * k + v;
-    mem[from]
 }
 
 // The layers that are on, together.

@@ -3,19 +3,20 @@
 ghost use mathlib.Core.Path.{_≡_};
 ghost use mathlib.Core.Bool.{not, _&&_};
 ghost use mathlib.Core.Logic.{_⊎_};
-ghost use Prim.Native.Nat.{_+_, _/_, _≤_};
+ghost use Prim.Native.Nat.{_+_, _/_, _%_, _^_, _≤_};
 ghost use lib.ListN.{length, getD};
 ghost use Rattle.ground.specs.Lists.{build};
 ghost use Rattle.state.specs.Attribute.{attributed, shadesOf};
 ghost use Rattle.state.specs.Combination.{isAttribute};
 ghost use Rattle.display.specs.Displayed.{attributeByte, glyphDots, textDots, graphicDots};
 ghost use Rattle.display.specs.Layers.{layersAt};
-ghost use Rattle.display.specs.Shaded.{Shaded};
+ghost use Rattle.display.specs.Shaded.{Shaded, fontOf};
 ghost use Rattle.display.specs.Drawable.{Drawable, GraphicOver};
 use super::cell::address;
 use super::cell::byte_at;
-use super::cell::glyph;
 use super::cell::mix;
+use super::font::give;
+use super::font::look_up;
 use ground::bytes::full;
 use ground::bytes::low;
 use state::attribute::shades;
@@ -23,25 +24,36 @@ use state::combination::is_attribute;
 use state::panel::Panel;
 use state::registers::Display;
 
-// The glyph rows of the line's codes.
+// Bytes of memory from an address on, round, their low dots.
+fn fetch(width: usize, mem: &[u8], start: u16, out: &mut [u8])
+    requires { ⌜ length (now mem) ≡ 65536 ⌝ }
+    ensures { λ _. ⌜ now (out .exit) ≡ build (length (now (out .entry))) (λ j. getD (now (mem .entry)) ((start + j) % 65536) 0 % 2 ^ width) ⌝ }
+{
+    let mut at = start;
+    for j in 0..out.len() {
+        out[j] = low(width, byte_at(mem, at));
+        at = std::num::wrapping_add_u16(at, 1);
+    }
+}
+
+// The glyph rows of the line's codes: first the codes, then what the font has for them.
 fn lay_glyphs(
     panel: Panel,
     display: Display,
     mem: &[u8],
     rom: &[u8],
+    font: &[u8],
     row: usize,
     column: usize,
     cells: &mut [u8],
 )
     requires { ⌜ Drawable panel display (now mem) (now rom) ⌝ }
+    requires { ⌜ now font ≡ fontOf display (now mem) (now rom) ⌝ }
     ensures { λ _. ⌜ now (cells .exit) ≡ build (length (now (cells .entry))) (λ j. glyphDots panel display (now (mem .entry)) (now (rom .entry)) row (column + j)) ⌝ }
 {
-    let mut at = address(display.text, row / 8, column);
-    for j in 0..cells.len() {
-        let code = byte_at(mem, at);
-        cells[j] = low(panel.width, glyph(display, mem, rom, code, row % 8));
-        at = std::num::wrapping_add_u16(at, 1);
-    }
+    let at = address(display.text, row / 8, column);
+    fetch(8, mem, at, cells);
+    look_up(panel.width, font, row % 8, cells);
 }
 
 // The table of a state: in attribute mode the shades, else none are asked for.
@@ -98,12 +110,14 @@ fn lay_text(
     display: Display,
     mem: &[u8],
     rom: &[u8],
+    font: &[u8],
     shades: &[u8],
     row: usize,
     column: usize,
     cells: &mut [u8],
 )
     requires { ⌜ Drawable panel display (now mem) (now rom) ⌝ }
+    requires { ⌜ now font ≡ fontOf display (now mem) (now rom) ⌝ }
     requires { ⌜ Shaded panel display (now shades) ⌝ }
     ensures { λ _. ⌜ now (cells .exit) ≡ build (length (now (cells .entry))) (λ j. textDots panel display (now (mem .entry)) (now (rom .entry)) row (column + j)) ⌝ }
 {
@@ -111,20 +125,10 @@ fn lay_text(
         clear(cells);
         return;
     }
-    lay_glyphs(panel, display, mem, rom, row, column, cells);
+    lay_glyphs(panel, display, mem, rom, font, row, column, cells);
     let combination = display.combination;
     if is_attribute(combination) & display.bits.graphic {
         lay_attributes(panel, display, mem, rom, shades, row, column, cells);
-    }
-}
-
-// The text's dots given out, as far as they are asked for.
-fn give_text(cells: &[u8], text: &mut [u8])
-    requires { ⌜ length (now text) ≤ length (now cells) ⌝ }
-    ensures { λ _. ⌜ now (text .exit) ≡ build (length (now (text .entry))) (λ j. getD (now (cells .entry)) j 0) ⌝ }
-{
-    for j in 0..text.len() {
-        text[j] = cells[j];
     }
 }
 
@@ -136,7 +140,7 @@ fn has_dots(display: Display) -> bool
     display.bits.graphic & !is_attribute(combination)
 }
 
-// The graphic's dots given out, likewise.
+// The graphic's dots given out, as far as they are asked for.
 fn give_graphic(
     panel: Panel,
     display: Display,
@@ -150,11 +154,8 @@ fn give_graphic(
     ensures { λ _. ⌜ now (graphic .exit) ≡ build (length (now (graphic .entry))) (λ j. graphicDots panel display (now (mem .entry)) row (column + j)) ⌝ }
 {
     if has_dots(display) {
-        let mut at = address(display.graphic, row, column);
-        for j in 0..graphic.len() {
-            graphic[j] = low(panel.width, byte_at(mem, at));
-            at = std::num::wrapping_add_u16(at, 1);
-        }
+        let at = address(display.graphic, row, column);
+        fetch(panel.width, mem, at, graphic);
         return;
     }
     clear(graphic);
@@ -197,6 +198,7 @@ pub(crate) fn lay(
     display: Display,
     mem: &[u8],
     rom: &[u8],
+    font: &[u8],
     shades: &[u8],
     row: usize,
     column: usize,
@@ -205,14 +207,15 @@ pub(crate) fn lay(
     shown: &mut [u8],
 )
     requires { ⌜ Drawable panel display (now mem) (now rom) ⌝ }
+    requires { ⌜ now font ≡ fontOf display (now mem) (now rom) ⌝ }
     requires { ⌜ Shaded panel display (now shades) ⌝ }
     requires { ⌜ length (now text) ≤ length (now shown) ⌝ }
     ensures { λ _. ⌜ now (text .exit) ≡ build (length (now (text .entry))) (λ j. layersAt panel display (now (mem .entry)) (now (rom .entry)) row (column + j) .text) ⌝ }
     ensures { λ _. ⌜ now (graphic .exit) ≡ build (length (now (graphic .entry))) (λ j. layersAt panel display (now (mem .entry)) (now (rom .entry)) row (column + j) .graphic) ⌝ }
     ensures { λ _. ⌜ now (shown .exit) ≡ build (length (now (shown .entry))) (λ j. layersAt panel display (now (mem .entry)) (now (rom .entry)) row (column + j) .shown) ⌝ }
 {
-    lay_text(panel, display, mem, rom, shades, row, column, shown);
-    give_text(shown, text);
+    lay_text(panel, display, mem, rom, font, shades, row, column, shown);
+    give(shown, text);
     give_graphic(panel, display, mem, row, column, graphic);
     lay_graphic(panel, display, mem, row, column, shown);
 }

@@ -1,6 +1,7 @@
 // What the panel shows: from a state and the lent memory every dot.
 mod cell;
 mod door;
+mod font;
 pub mod frame;
 mod layers;
 mod row;

@@ -6,7 +6,7 @@ ghost use lib.ListN.{length};
 ghost use Rattle.ground.specs.Packing.{rowBytes};
 ghost use Rattle.display.specs.Frame.{rowOf};
 ghost use Rattle.display.specs.Drawable.{Drawable, CursorOver};
-ghost use Rattle.display.specs.Shaded.{Shaded};
+ghost use Rattle.display.specs.Shaded.{Shaded, fontOf};
 use super::cell::cursor_covers;
 use super::cell::cursor_lit;
 use super::layers::lay;
@@ -35,12 +35,14 @@ pub(crate) fn paint_row(
     display: Display,
     mem: &[u8],
     rom: &[u8],
+    font: &[u8],
     shades: &[u8],
     row: usize,
     cells: &mut [u8],
     out: &mut [u8],
 )
     requires { ⌜ Drawable panel display (now mem) (now rom) ⌝ }
+    requires { ⌜ now font ≡ fontOf display (now mem) (now rom) ⌝ }
     requires { ⌜ Shaded panel display (now shades) ⌝ }
     requires { ⌜ length (now cells) ≡ panel .columns ⌝ }
     requires { ⌜ length (now out) ≡ rowBytes (panel .columns) (panel .width) ⌝ }
@@ -53,6 +55,7 @@ pub(crate) fn paint_row(
         display,
         mem,
         rom,
+        font,
         shades,
         row,
         0,

@@ -2,6 +2,7 @@
 ghost use mathlib.Core.Path.{_≡_};
 ghost use Rattle.display.specs.Layers.{stretch, rowLayersOf};
 use super::door::refusal;
+use super::font::font;
 use super::layers::lay;
 use super::layers::tables;
 use state::panel::Panel;
@@ -27,12 +28,14 @@ pub fn row_layers(
     let alike = (text.len() == shown.len()) & (graphic.len() == shown.len());
     let number = refusal(valid, mem, rom, alike);
     if number == 0 {
+        let glyphs = font(display, mem, rom);
         let shades = tables(panel, display);
         lay(
             panel,
             display,
             mem,
             rom,
+            &glyphs,
             &shades,
             row,
             column,

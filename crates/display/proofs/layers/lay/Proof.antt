@@ -10,8 +10,8 @@ use Rattle.display.proofs.layers.lay.Tie as tie
 lay-text-requires : tie.Need-lay-text-requires
 lay-text-requires c κs = search needs
 
-give-text-requires : tie.Need-give-text-requires
-give-text-requires c κs = search needs
+give-requires : tie.Need-give-requires
+give-requires c κs = search needs
 
 give-graphic-requires : tie.Need-give-graphic-requires
 give-graphic-requires c κs = search needs
@@ -30,18 +30,18 @@ same-length-3 c = search needs
 
 returns : tie.Need-returns
 returns c =
-    let s = c .before .before .before .before .before .before .before .before .before .before .before .before .before .before .before .before .before .before .before .before .before .before .before in
+    let s = c .before .before .before .before .before .before .before .before .before .before .before .before .before .before .before .before .before .before .before .before .before .before .before .before in
     let a = s .args in
     let text : ℕ → ℕ = λ j. textDots (a .panel) (a .display) (a .mem .now) (a .rom .now) (a .row) (a .column + j) in
     let shown : ℕ → ℕ = λ j. displayedByte (a .panel) (a .display) (a .mem .now) (a .rom .now) (a .row) (a .column + j) in
-    (front-of text _ _ (a .text .now) (c .before .before .before .before .before .before .before .before .before .before .before .before .before .before .before .lay-text .ensures) (s .pre .1 .1) (c .before .before .before .before .before .before .before .before .before .before .give-text .ensures), (c .before .before .before .before .before .before .give-graphic .ensures, same-count text shown (a .shown .now) (c .before .before .before .before .before .before .before .before .before .before .before .before .before .before .before .lay-text .last .1 .1 .1 .1 .1 .1 .1 .0) refl (c .before .before .before .before .before .before .before .before .before .before .before .before .before .before .before .lay-text .ensures) (c .before .before .lay-graphic .ensures (a .rom .now) (own-count _ _ (c .before .before .before .before .before .before .before .before .before .before .before .before .before .before .before .lay-text .ensures)))))
+    (front-of text _ _ (a .text .now) (c .before .before .before .before .before .before .before .before .before .before .before .before .before .before .before .lay-text .ensures) (s .pre .1 .1 .1) (c .before .before .before .before .before .before .before .before .before .before .give .ensures), (c .before .before .before .before .before .before .give-graphic .ensures, same-count text shown (a .shown .now) (c .before .before .before .before .before .before .before .before .before .before .before .before .before .before .before .lay-text .last .1 .1 .1 .1 .1 .1 .1 .1 .0) refl (c .before .before .before .before .before .before .before .before .before .before .before .before .before .before .before .lay-text .ensures) (c .before .before .lay-graphic .ensures (a .rom .now) (own-count _ _ (c .before .before .before .before .before .before .before .before .before .before .before .before .before .before .before .lay-text .ensures)))))
 
 pub lay-spec : {M : Type 1} → statement M
 lay-spec =
     tie.close
     (tie.spec
     lay-text-requires
-    give-text-requires
+    give-requires
     give-graphic-requires
     lay-graphic-requires
     same-length

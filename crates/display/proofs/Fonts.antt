@@ -1,0 +1,113 @@
+-- The glyphs of all codes side by side: from memory, or below 80H from the ROM; and the codes of a row looked up in them.
+use mathlib.Core.Path.{_≡_, ap, sym, _∙_}
+use mathlib.Core.List.{List, _++_}
+use mathlib.Core.Bool.{Bool, true, false, cond, not, _&&_}
+use Prim.Native.Nat.{ℕ, _+_, _-_, _*_, _/_, _%_, _^_, _<_, _≤_}
+use native.Mathlib.Decide.{decLt}
+use native.Mathlib.Omega.{arith}
+use lib.Dec.{ltb}
+use lib.ListN.{length, getD, take, drop, length-append, length-drop, List·getD-append}
+use lib.Seq.{getD-append-add, getD-take, getD-drop, ext-getD, length-take-le}
+use borrow.Author.Tests.{lt-ltb, le-ltb}
+use Rattle.ground.specs.Lists.{build}
+use Rattle.ground.proofs.Lists.{build-length, build-at, build-cong}
+use Rattle.display.specs.Types.{Panel, Display}
+use Rattle.display.specs.Displayed.{addressOf, textCode, glyphRow, glyphDots}
+use Rattle.display.specs.Shaded.{fontOf}
+use Rattle.display.proofs.Passes.{bytesFrom, glyphIn}
+
+-- a byte of a stretch of memory
+pub stretch-at : (mem : List ℕ) (b n j : ℕ) → j < n → getD (take n (drop b mem)) j 0 ≡ getD mem (b + j) 0
+stretch-at mem b n j h = getD-take n (drop b mem) j 0 h ∙ getD-drop b mem j 0
+
+module _ (d : Display) (mem rom : List ℕ) where
+  pub font-length : length (fontOf d mem rom) ≡ 2048
+  unfolding fontOf
+  font-length = build-length 2048 (λ i. glyphRow d mem rom (i / 8) (i % 8))
+
+  -- a row of a code
+  font-at : (code v : ℕ) → code < 256 → v < 8 → getD (fontOf d mem rom) (8 * code + v) 0 ≡ glyphRow d mem rom code v
+  unfolding fontOf
+  font-at code v h l =
+      let e : (8 * code + v) / 8 ≡ code = omega arith in
+      let f : (8 * code + v) % 8 ≡ v = omega arith in
+      build-at 2048 (λ i. glyphRow d mem rom (i / 8) (i % 8)) (8 * code + v) 0 (omega arith) ∙ (λ i. glyphRow d mem rom (e i) (f i))
+
+  by-place : (i : ℕ) → 8 * (i / 8) + i % 8 ≡ i
+  by-place i = omega arith
+
+  from-memory : (i : ℕ) → (not (d .external) && ltb (i / 8) 0x80) ≡ false → getD mem (2048 * d .offset + i) 0 ≡ glyphRow d mem rom (i / 8) (i % 8)
+  unfolding glyphRow
+  from-memory i e =
+      ap (λ (m : ℕ). getD mem m 0) (let f : 2048 * d .offset + i ≡ 2048 * d .offset + 8 * (i / 8) + i % 8 = omega arith in f)
+      ∙ sym (ap (λ (t : Bool). cond t (getD rom (8 * (i / 8) + i % 8) 0) (getD mem (2048 * d .offset + 8 * (i / 8) + i % 8) 0)) e)
+
+  from-rom : (i : ℕ) → (not (d .external) && ltb (i / 8) 0x80) ≡ true → getD rom i 0 ≡ glyphRow d mem rom (i / 8) (i % 8)
+  unfolding glyphRow
+  from-rom i e =
+      ap (λ (m : ℕ). getD rom m 0) (sym (by-place i))
+      ∙ sym (ap (λ (t : Bool). cond t (getD rom (8 * (i / 8) + i % 8) 0) (getD mem (2048 * d .offset + 8 * (i / 8) + i % 8) 0)) e)
+
+  module _ {l : List ℕ} {m : ℕ} {g : ℕ → ℕ} (k : l ≡ build m g) (s : m ≡ 2048) (bank : (j : ℕ) → j < 2048 → g j ≡ getD mem (2048 * d .offset + j) 0) where
+    font-long : length l ≡ 2048
+    font-long = ap length k ∙ build-length m g ∙ s
+
+    banked : (j : ℕ) → j < 2048 → getD l j 0 ≡ getD mem (2048 * d .offset + j) 0
+    banked j h = ap (λ (x : List ℕ). getD x j 0) k ∙ build-at m g j 0 (omega (arith, s)) ∙ bank j h
+
+    -- characters external
+    pub all-memory : not (d .external) ≡ false → (l ≡ fontOf d mem rom) × (2048 ≡ length l)
+    unfolding fontOf
+    all-memory e = (
+      ext-getD 0 l (build 2048 (λ i. glyphRow d mem rom (i / 8) (i % 8))) (font-long ∙ sym (build-length 2048 (λ i. glyphRow d mem rom (i / 8) (i % 8))))
+          (λ i h.
+          let n : i < 2048 = omega (arith, font-long) in
+          banked i n ∙ from-memory i (ap (λ (t : Bool). t && ltb (i / 8) 0x80) e) ∙ sym (build-at 2048 (λ i. glyphRow d mem rom (i / 8) (i % 8)) i 0 n)),
+      sym font-long,
+    )
+
+    -- characters internal: the ROM's over the first half
+    pub rom-over : {x : List ℕ} → not (d .external) ≡ true → x ≡ build (length (take 1024 l)) (λ j. getD rom j 0) → (x ++ drop 1024 l ≡ fontOf d mem rom) × (2048 ≡ length (x ++ drop 1024 l))
+    unfolding fontOf
+    rom-over {x} e f = (
+      ext-getD 0 (x ++ drop 1024 l) (build 2048 (λ i. glyphRow d mem rom (i / 8) (i % 8))) (sym long ∙ sym (build-length 2048 (λ i. glyphRow d mem rom (i / 8) (i % 8))))
+          (λ i h. let n : i < 2048 = omega (arith, long) in each i n (decLt i 1024) ∙ sym (build-at 2048 (λ i. glyphRow d mem rom (i / 8) (i % 8)) i 0 n)),
+      long,
+    )
+      where
+        front : length (take 1024 l) ≡ 1024
+        front = length-take-le 1024 l (omega (arith, font-long))
+
+        half : length x ≡ 1024
+        half = ap length f ∙ build-length (length (take 1024 l)) (λ j. getD rom j 0) ∙ front
+
+        long : 2048 ≡ length (x ++ drop 1024 l)
+        long = sym (length-append x (drop 1024 l) ∙ (λ i. half i + length-drop 1024 l i) ∙ (let o : 1024 + (length l - 1024) ≡ 2048 = omega (arith, font-long) in o))
+
+        each : (i : ℕ) → i < 2048 → Dec (i < 1024) → getD (x ++ drop 1024 l) i 0 ≡ glyphRow d mem rom (i / 8) (i % 8)
+        each i n (yes q) =
+            List·getD-append x (drop 1024 l) 0 i (omega (arith, half))
+            ∙ ap (λ (z : List ℕ). getD z i 0) f ∙ build-at (length (take 1024 l)) (λ j. getD rom j 0) i 0 (omega (arith, front))
+            ∙ from-rom i ((λ t. e t && lt-ltb (i / 8) 0x80 (omega arith) t))
+        each i n (no q) =
+            ap (λ (z : ℕ). getD (x ++ drop 1024 l) z 0) (let o : i ≡ length x + (i - 1024) = omega (arith, half) in o)
+            ∙ getD-append-add x (drop 1024 l) (i - 1024) 0 ∙ getD-drop 1024 l (i - 1024) 0
+            ∙ ap (λ (z : ℕ). getD l z 0) (let o : 1024 + (i - 1024) ≡ i = omega arith in o)
+            ∙ banked i n ∙ from-memory i ((λ t. e t && le-ltb (i / 8) 0x80 (omega arith) t))
+
+-- the codes of a line, looked up
+module _ (p : Panel) (d : Display) (mem rom : List ℕ) (r first : ℕ) where
+  pub looked-up : {start : ℕ} {font codes : List ℕ} (n : ℕ) → start ≡ addressOf (d .text) (r / 8) first → font ≡ fontOf d mem rom → ((i : ℕ) → getD mem i 0 < 256)
+      → codes ≡ build n (bytesFrom 8 mem start)
+      → build (length codes) (glyphIn (p .width) font (r % 8) codes) ≡ build n (λ j. glyphDots p d mem rom r (first + j))
+  unfolding glyphDots textCode
+  looked-up {start} {font} {codes} n s f bytes k =
+      ap (λ (m : ℕ). build m (glyphIn (p .width) font (r % 8) codes)) (ap length k ∙ build-length n (bytesFrom 8 mem start))
+      ∙ build-cong n _ _
+      (λ j h.
+      let at : (start + j) % 65536 ≡ addressOf (d .text) (r / 8) (first + j) = omega (arith, s) in
+      let small = bytes (addressOf (d .text) (r / 8) (first + j)) in
+      let code : getD codes j 0 ≡ getD mem (addressOf (d .text) (r / 8) (first + j)) 0 =
+      ap (λ (x : List ℕ). getD x j 0) k ∙ build-at n (bytesFrom 8 mem start) j 0 h ∙ ap (λ (m : ℕ). getD mem m 0 % 2 ^ 8) at ∙ (omega (arith, small)) in
+      (λ q. getD (f q) (8 * code q + r % 8) 0 % 2 ^ p .width)
+      ∙ ap (λ (x : ℕ). x % 2 ^ p .width) (font-at d mem rom (getD mem (addressOf (d .text) (r / 8) (first + j)) 0) (r % 8) small (omega arith)))
