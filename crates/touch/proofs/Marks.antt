@@ -7,7 +7,7 @@ use native.Mathlib.Omega.{arith}
 use lib.Dec.{ltb, eqb}
 use lib.ListN.{length, getD, drop, set}
 use lib.Seq.{getD-append-add, getD-drop, ext-getD}
-use borrow.Author.Tests.{ltb-false, eqb-true}
+use borrow.Author.Tests.{ltb-true, ltb-false, lt-ltb, eqb-true}
 use Rattle.ground.specs.Lists.{build}
 use Rattle.ground.proofs.Lists.{build-length, build-at, build-cong}
 use Rattle.ground.proofs.Filling.{Filled, one-more, at-end}
@@ -51,15 +51,30 @@ module _ (test : ℕ → Bool) (l₀ : List ℕ) where
 abbrev pub planeTest : Display → ℕ → ℕ → ℕ → Bool → ℕ → Bool
 planeTest d C at n altered r = altered || (rowMeets (d .text) (r / 8) C at n || rowMeets (d .graphic) (planeRow (d .combination) r) C at n)
 
-pub planes-one : (d : Display) (C at n : ℕ) (altered : Bool) (l₀ : List ℕ) {l : List ℕ} {row low places line v : ℕ} {t g : Bool}
+-- told in 16 bits: so many places that these can't say it reach every row
+wide : (S x y : ℕ) (altered : Bool) → x < 65536 → y < 65536 → ((altered || ltb 65535 S) || (ltb x (S % 65536) || ltb y (S % 65536))) ≡ (altered || (ltb x S || ltb y S))
+wide S x y altered hx hy = go (ltb 65535 S) refl altered
+  where
+    go : (t : Bool) → ltb 65535 S ≡ t → (a : Bool) → ((a || ltb 65535 S) || (ltb x (S % 65536) || ltb y (S % 65536))) ≡ (a || (ltb x S || ltb y S))
+    go t e true = refl
+    go true e false =
+        let h : x < S = let l = ltb-true 65535 S e in omega arith in
+        ap (λ (t : Bool). t || (ltb x (S % 65536) || ltb y (S % 65536))) e ∙ sym (ap (λ (t : Bool). t || ltb y S) (lt-ltb x S h))
+    go false e false =
+        let m : S % 65536 ≡ S = let l = ltb-false 65535 S e in omega arith in
+        (λ i. e i || (ltb x (m i) || ltb y (m i)))
+
+pub planes-one : (d : Display) (C at n : ℕ) (altered : Bool) (l₀ : List ℕ) {l : List ℕ} {row low places within line v : ℕ} {t g : Bool}
     → Filled (markAt (planeTest d C at n altered) l₀) l₀ l row → row < length l₀ → (0 < C) × (C ≤ 80) → at < 65536 → low < 65536 → (low + (C - 1)) % 65536 ≡ at → places ≡ spanOf C n
-    → t ≡ reachesOf (d .text) (row / 8) low places → line ≡ planeRow (d .combination) row → g ≡ reachesOf (d .graphic) line low places
-    → v ≡ keptFlag (altered || (t || g)) (getD l row 0) → Filled (markAt (planeTest d C at n altered) l₀) l₀ (set l row v) (row + 1)
-planes-one d C at n altered l₀ {l} {row} {low} {places} {line} {v} {t} {g} k h w la ll e s a b c f =
-    let text : t ≡ rowMeets (d .text) (row / 8) C at n = a ∙ ap (reachesOf (d .text) (row / 8) low) s ∙ row-reach (d .text) (row / 8) C at n low (w .0) (w .1) la ll e in
-    let graphic : g ≡ rowMeets (d .graphic) (planeRow (d .combination) row) C at n =
-    c ∙ (λ i. reachesOf (d .graphic) (b i) low (s i)) ∙ row-reach (d .graphic) (planeRow (d .combination) row) C at n low (w .0) (w .1) la ll e in
-    marks-one (planeTest d C at n altered) l₀ k h (f ∙ (λ i. keptFlag (altered || (text i || graphic i)) (getD l row 0)))
+    → within ≡ places % 65536 → t ≡ reachesOf (d .text) (row / 8) low within → line ≡ planeRow (d .combination) row → g ≡ reachesOf (d .graphic) line low within
+    → v ≡ keptFlag ((altered || ltb 65535 places) || (t || g)) (getD l row 0) → Filled (markAt (planeTest d C at n altered) l₀) l₀ (set l row v) (row + 1)
+planes-one d C at n altered l₀ {l} {row} {low} {places} {within} {line} {v} {t} {g} k h w la ll e s m a b c f =
+    let text = ap (reachesOf (d .text) (row / 8) low) s ∙ row-reach (d .text) (row / 8) C at n low (w .0) (w .1) la ll e in
+    let graphic = (λ i. reachesOf (d .graphic) (b i) low (s i)) ∙ row-reach (d .graphic) (planeRow (d .combination) row) C at n low (w .0) (w .1) la ll e in
+    marks-one (planeTest d C at n altered) l₀ k h
+    (f
+    ∙ (λ i. keptFlag ((altered || ltb 65535 places) || ((a ∙ ap (reachesOf (d .text) (row / 8) low) m) i || (c ∙ ap (reachesOf (d .graphic) line low) m) i)) (getD l row 0))
+    ∙ ap (λ (b : Bool). keptFlag b (getD l row 0)) (wide places _ _ altered (omega arith) (omega arith)) ∙ (λ i. keptFlag (altered || (text i || graphic i)) (getD l row 0)))
 
 -- twice
 pub set-again : (p : Panel) (f g h : ℕ → Bool) (l : List ℕ) → ((r : ℕ) → (g r || f r) ≡ h r) → setWhere p g (setWhere p f l) ≡ setWhere p h l

@@ -33,11 +33,11 @@ fn span(columns: usize, n: usize) -> usize
 }
 
 // A row that begins so far from an address on.
-fn reaches(plane: Plane, row: usize, low: u16, span: usize) -> bool
+fn reaches(plane: Plane, row: usize, low: u16, span: u16) -> bool
     ensures { λ r. ⌜ r ≡ reachesOf plane row low span ⌝ }
 {
     let start = first_of(plane, row);
-    let from = std::num::wrapping_sub_u16(start, low) as usize;
+    let from = std::num::wrapping_sub_u16(start, low);
     from < span
 }
 
@@ -112,7 +112,8 @@ fn kept(set: bool, flag: u8) -> u8
     flag
 }
 
-// By text and graphic or attribute bytes: a subtraction each, no byte read.
+// By text and graphic or attribute bytes: a subtraction each, no byte read. All in 16 bits, so that many rows are compared at once: so many
+// places that 16 bits can't say it reach every row.
 fn mark_planes(panel: Panel, display: Display, at: u16, n: usize, altered: bool, flags: &mut [u8])
     requires { ⌜ (0 < panel .columns) × (panel .columns ≤ 80) ⌝ }
     requires { ⌜ length (now flags) ≡ 8 * panel .lines ⌝ }
@@ -122,10 +123,12 @@ fn mark_planes(panel: Panel, display: Display, at: u16, n: usize, altered: bool,
     let combination = display.combination;
     let low = std::num::wrapping_sub_u16(at, (columns - 1) as u16);
     let places = span(columns, n);
+    let every = altered | (65535 < places);
+    let within = (places % 65536) as u16;
     for row in 0..flags.len() {
-        let text = reaches(display.text, row / 8, low, places);
-        let graphic = reaches(display.graphic, plane_row(combination, row), low, places);
-        flags[row] = kept(altered | (text | graphic), flags[row]);
+        let text = reaches(display.text, row / 8, low, within);
+        let graphic = reaches(display.graphic, plane_row(combination, row), low, within);
+        flags[row] = kept(every | (text | graphic), flags[row]);
     }
 }
 

@@ -1,4 +1,5 @@
 -- `mark_planes` meets its contract: row by row.
+use mathlib.Core.Path.{refl}
 use Prim.Native.Nat.{_-_}
 use native.Mathlib.Omega.{arith}
 use Rattle.ground.proofs.Filling.{Filled, none-yet, as-long}
@@ -8,10 +9,10 @@ use Rattle.touch.proofs.touch.mark_planes.Statement.{statement}
 use Rattle.touch.proofs.touch.mark_planes.Tie as tie
 
 abbrev Inv-loop : tie.InvT-loop
-Inv-loop display at n altered flags₀ columns combination low places row₀ row-end flags row = Filled (markAt (planeTest display columns at n altered) flags₀) flags₀ flags row
+Inv-loop display at n altered flags₀ columns combination low places every within row₀ row-end flags row = Filled (markAt (planeTest display columns at n altered) flags₀) flags₀ flags row
 
 abbrev μ-loop : tie.MeasureT-loop
-μ-loop display at n altered flags₀ columns combination low places row₀ row-end flags row = row-end - row
+μ-loop display at n altered flags₀ columns combination low places every within row₀ row-end flags row = row-end - row
 
 sub-wrapping-sub-u16 : tie.Need-sub-wrapping-sub-u16 Inv-loop μ-loop
 sub-wrapping-sub-u16 c = omega (arith, c .before .pre .0)
@@ -24,6 +25,9 @@ wrapping-sub-u16-requires c κs = search needs
 
 span-requires : tie.Need-span-requires Inv-loop μ-loop
 span-requires c κs = c .before .before .pre .0
+
+cast-within : tie.Need-cast-within Inv-loop μ-loop
+cast-within c = search needs
 
 loop-holds : tie.Need-loop-holds Inv-loop μ-loop
 loop-holds c = none-yet _ _
@@ -57,7 +61,7 @@ loop-again c =
     let k = c .before .before .before .before .before .before .before .before .before .before in
     let s = k .args in
     planes-one (s .display) (s .panel .columns) (s .at) (s .n) (s .altered) (s .flags .now) (c .before .before .before .before .before .before .loop .inv) (c .before .before .before .before .before .loop-test .taken) (k .pre .0) (omega arith) (omega arith)
-    (c .before .before .before .before .before .before .before .before .wrapping-sub-u16 .ensures) (c .before .before .before .before .before .before .before .span .ensures) (c .before .before .before .before .reaches .ensures) (c .before .before .before .plane-row .ensures) (c .before .before .reaches2 .ensures) (c .kept .ensures)
+    (c .before .before .before .before .before .before .before .before .wrapping-sub-u16 .ensures) (c .before .before .before .before .before .before .before .span .ensures) refl (c .before .before .before .before .reaches .ensures) (c .before .before .before .plane-row .ensures) (c .before .before .reaches2 .ensures) (c .kept .ensures)
 
 same-length : tie.Need-same-length Inv-loop μ-loop
 same-length c = as-long _ _ (c .before .loop .inv)
@@ -75,6 +79,7 @@ mark-planes-spec =
     cast-wrapping-sub-u16
     wrapping-sub-u16-requires
     span-requires
+    cast-within
     loop-holds
     reaches-requires
     plane-row-requires

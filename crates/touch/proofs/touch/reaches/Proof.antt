@@ -16,13 +16,10 @@ first-of-requires c κs = search needs
 wrapping-sub-u16-requires : tie.Need-wrapping-sub-u16-requires
 wrapping-sub-u16-requires c κs = search needs
 
-cast-from : tie.Need-cast-from
-cast-from c = search needs
-
 returns : tie.Need-returns
 returns c =
     let a = c .before .before .args in
     ap (λ (m : ℕ). ltb m (a .span)) (ahead (a .plane .home + a .row * a .plane .area) (c .before .first-of .result) (a .low) (c .wrapping-sub-u16 .result) (c .before .first-of .ensures) (omega arith) (omega arith) (c .wrapping-sub-u16 .ensures))
 
 pub reaches-spec : {M : Type 1} → statement M
-reaches-spec = tie.close (tie.spec first-of-requires wrapping-sub-u16-requires cast-from returns)
+reaches-spec = tie.close (tie.spec first-of-requires wrapping-sub-u16-requires returns)
