@@ -28,11 +28,11 @@ use Rattle.display.proofs.Dots.{row-sized}
 
 module _ (p : Panel) (d : Display) (mem rom : List ℕ) (first R : ℕ) (flags out₀ : List ℕ) where
   -- a row that has a flag; behind the last any row of that length
-  abbrev rowIn : ℕ → List ℕ
-  rowIn r = cond (ltb r (length flags)) (someRow p d mem rom first R flags out₀ r) (rowOf p d mem rom (first + r))
+  abbrev anyRow : ℕ → List ℕ
+  anyRow r = cond (ltb r (length flags)) (someRow p d mem rom first R flags out₀ r) (rowOf p d mem rom (first + r))
 
   abbrev pub Flagging : List ℕ → ℕ → Type 0
-  Flagging out row = Rowed R (length flags) rowIn out₀ out row
+  Flagging out row = Rowed R (length flags) anyRow out₀ out row
 
   module _ (e : R ≡ rowBytes (p .columns) (p .width)) (long : length out₀ ≡ length flags * R) where
     stretch-long : (r : ℕ) → r < length flags → length (take R (drop (r * R) out₀)) ≡ R
@@ -41,7 +41,7 @@ module _ (p : Panel) (d : Display) (mem rom : List ℕ) (first R : ℕ) (flags o
         let b : suc r * R ≡ r * R + R = suc-mul r R in
         simp (length-take, length-drop) (omega (arith, a, b, long))
 
-    sized : (r : ℕ) → length (rowIn r) ≡ R
+    sized : (r : ℕ) → length (anyRow r) ≡ R
     sized r = go (ltb r (length flags)) refl (eqb (getD flags r 0) 0)
       where
         go : (t : Bool) → ltb r (length flags) ≡ t → (u : Bool)
@@ -54,7 +54,7 @@ module _ (p : Panel) (d : Display) (mem rom : List ℕ) (first R : ℕ) (flags o
     flagging = started long sized
 
   module _ {out : List ℕ} {row : ℕ} (k : Flagging out row) (h : row < length flags) where
-    by-flag : (u : Bool) → eqb (getD flags row 0) 0 ≡ u → rowIn row ≡ cond u (take R (drop (row * R) out₀)) (rowOf p d mem rom (first + row))
+    by-flag : (u : Bool) → eqb (getD flags row 0) 0 ≡ u → anyRow row ≡ cond u (take R (drop (row * R) out₀)) (rowOf p d mem rom (first + row))
     by-flag u e =
         λ i. cond (lt-ltb row (length flags) h i) (cond (e i) (take R (drop (row * R) out₀)) (rowOf p d mem rom (first + row))) (rowOf p d mem rom (first + row))
 
@@ -65,22 +65,22 @@ module _ (p : Panel) (d : Display) (mem rom : List ℕ) (first R : ℕ) (flags o
     pub row-left : getD flags row 0 ≡ 0 → Flagging out (row + 1)
     row-left z =
         let X = drop (row * R) out₀ in
-        let f : rowIn row ≡ take R X = by-flag true (eq-eqb (getD flags row 0) 0 z) in
+        let f : anyRow row ≡ take R X = by-flag true (eq-eqb (getD flags row 0) 0 z) in
         let n : drop R X ≡ drop ((row + 1) * R) out₀ =
         drop-drop R (row * R) out₀ ∙ ap (λ (m : ℕ). drop m out₀) (sym (suc-mul row R) ∙ ap (λ (m : ℕ). m * R) (sym (add-one row))) in
         record {
           long = k .long;
           sized = k .sized;
           inside = omega arith;
-          painted = k .painted ∙ ap (λ (l : List ℕ). joined row rowIn ++ l) (sym (take-append-drop R X))
-              ∙ (λ i. joined row rowIn ++ (sym f i ++ n i)) ∙ sym (append-assoc (joined row rowIn) (rowIn row) (drop ((row + 1) * R) out₀))
-              ∙ ap (λ (l : List ℕ). l ++ drop ((row + 1) * R) out₀) (sym (joined-more row rowIn));
+          painted = k .painted ∙ ap (λ (l : List ℕ). joined row anyRow ++ l) (sym (take-append-drop R X))
+              ∙ (λ i. joined row anyRow ++ (sym f i ++ n i)) ∙ sym (append-assoc (joined row anyRow) (anyRow row) (drop ((row + 1) * R) out₀))
+              ∙ ap (λ (l : List ℕ). l ++ drop ((row + 1) * R) out₀) (sym (joined-more row anyRow));
         }
 
   pub rows-done : {out : List ℕ} {row : ℕ} → Flagging out row → length flags ≤ row → out ≡ joined (length flags) (someRow p d mem rom first R flags out₀)
   rows-done k h =
       whole k h
-      ∙ joined-cong (length flags) rowIn (someRow p d mem rom first R flags out₀)
+      ∙ joined-cong (length flags) anyRow (someRow p d mem rom first R flags out₀)
       (λ r l. ap (λ (t : Bool). cond t (someRow p d mem rom first R flags out₀ r) (rowOf p d mem rom (first + r))) (lt-ltb r (length flags) l))
 
   -- all flagged

@@ -22,7 +22,8 @@ use Rattle.stores.proofs.Stored.{Stored, step-stores}
 use Rattle.controller.proofs.Turns.{step-number}
 use Rattle.flags.specs.Types.{Panel, Display, Registers, Acted}
 use Rattle.touch.specs.Touch.{anyOf, inRow, glyphByteAt, glyphAt, planeRow, touches, touchedBy, touched}
-use Rattle.touch.specs.Marked.{flagsFit, markedOf, marksOf}
+use Rattle.display.specs.Flagged.{flagsFit}
+use Rattle.touch.specs.Marked.{markedOf, marksOf}
 use Rattle.flags.specs.Flags.{sameDisplay, flagsAfter, withFlags, flagStep, flagBy}
 use Rattle.flags.specs.Follow.{Followed, followed, followedBy, followedOf, followOf}
 use Rattle.flags.specs.Ready.{Following}

@@ -26,11 +26,11 @@ use Rattle.controller.specs.Access.{Pair, Step, done, answered, refused, stepOf
 use Rattle.stores.specs.Stores.{storesOf, fromAddress}
 use Rattle.controller.proofs.Goings.{Leaves}
 use Rattle.stores.proofs.Stored.{Stored, step-stores}
-use Rattle.touch.specs.Marked.{flagsFit}
+use Rattle.display.specs.Flagged.{flagsFit, stretchOf, refreshedRow}
 use Rattle.flags.specs.Types.{Panel, Plane, Cursor, DisplayBits, Combination, Or, Exor, And, Attribute, Display}
 use Rattle.touch.specs.Touch.{anyOf, inRow, glyphByteAt, glyphAt, planeRow, touches, touchedBy, touched}
 use Rattle.flags.specs.Flags.{allClear, sameFlag, samePlane, sameCursor, sameBits, modeNumber, sameDisplay, flagsAfter, Flagged, withFlags, flagBy, flagStep}
-use Rattle.flags.specs.Follow.{Followed, followedBy, followedOf, followOf, refreshed, stretchOf, refreshedRow, refreshOf}
+use Rattle.flags.specs.Follow.{Followed, followedBy, followedOf, followOf, refreshed, refreshOf}
 use Rattle.flags.specs.Claims.{Right, StartRight, FollowRight, RefreshRight}
 use Rattle.touch.proofs.Anys.{or-left, or-right, any-has, any-not}
 use Rattle.flags.proofs.Refreshes.{rowIn, sized}

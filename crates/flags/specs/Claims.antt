@@ -7,7 +7,8 @@ use Rattle.display.specs.Frame.{rowOf, frameOf}
 use Rattle.controller.specs.Access.{Pair}
 use Rattle.flags.specs.Types.{Panel, Display, Registers}
 use Rattle.flags.specs.Flags.{allSet}
-use Rattle.flags.specs.Follow.{followOf, stretchOf, refreshOf}
+use Rattle.display.specs.Flagged.{stretchOf}
+use Rattle.flags.specs.Follow.{followOf, refreshOf}
 
 -- every row that is not flagged stands in the frame as it is shown
 pub record Right (p : Panel) (d : Display) (mem rom flags frame : List ℕ) : Type 0 where

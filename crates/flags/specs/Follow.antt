@@ -2,16 +2,13 @@
 use Prim.Native.Nat.{ℕ, _*_}
 use mathlib.Core.Bool.{cond, _&&_}
 use mathlib.Core.List.{List}
-use lib.Dec.{eqb}
-use lib.ListN.{getD, take, drop}
 use Rattle.ground.specs.Lists.{joined}
 use Rattle.state.specs.State.{validPanel, validRegisters}
-use Rattle.state.specs.Sizes.{rowSize}
-use Rattle.display.specs.Frame.{rowOf, lentLengths, frameFits, replyOf}
+use Rattle.display.specs.Frame.{lentLengths, frameFits, replyOf}
 use Rattle.effects.specs.Machine.{machine}
 use Rattle.controller.specs.Access.{Pair, Step, done, answered, refused}
-use Rattle.touch.specs.Marked.{flagsFit}
-use Rattle.flags.specs.Types.{Panel, Display, Registers, Reply, Acted}
+use Rattle.display.specs.Flagged.{flagsFit, refreshedRow}
+use Rattle.flags.specs.Types.{Panel, Registers, Reply, Acted}
 use Rattle.flags.specs.Flags.{allClear, Flagged, withFlags, flagStep}
 
 -- an access's reply, the display memory and the flags then
@@ -48,14 +45,6 @@ pub record Refreshed : Type 0 where
 
 abbrev pub refreshed : Reply → List ℕ → List ℕ → Refreshed
 refreshed reply frame flags = record { reply = reply; frame = frame; flags = flags }
-
--- the stretch of dot row r
-abbrev pub stretchOf : Panel → List ℕ → ℕ → List ℕ
-stretchOf p frame r = take (rowSize p) (drop (r * rowSize p) frame)
-
--- the flagged rows painted, the others' bytes as they were
-abbrev pub refreshedRow : Panel → Display → List ℕ → List ℕ → List ℕ → List ℕ → ℕ → List ℕ
-refreshedRow p d mem rom frame flags i = cond (eqb (getD flags i 0) 0) (stretchOf p frame i) (rowOf p d mem rom i)
 
 -- 1, 2 (memory, ROM, frame, flags); else the flagged rows painted and the flags cleared
 unfoldable pub refreshOf : Panel → Registers → List ℕ → List ℕ → List ℕ → List ℕ → Refreshed

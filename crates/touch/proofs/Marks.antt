@@ -12,13 +12,15 @@ use Rattle.ground.specs.Lists.{build}
 use Rattle.ground.proofs.Lists.{build-length, build-at, build-cong}
 use Rattle.ground.proofs.Filling.{Filled, one-more, at-end}
 use Rattle.ground.proofs.Conjuncts.{neither}
-use Rattle.ground.proofs.Tests.{both-left, both-right}
+use Rattle.ground.proofs.Tests.{cond-has, both-left, both-right}
 use Rattle.state.specs.State.{validPanel, validDisplay}
 use Rattle.state.proofs.Valid.{panelled, displaying}
 use Rattle.stores.specs.Stores.{fromAddress}
-use Rattle.touch.specs.Types.{Panel, Display}
+use Rattle.state.specs.Combination.{isAttribute}
+use Rattle.touch.specs.Types.{Panel, Combination, Display}
 use Rattle.touch.specs.Touch.{anyOf, planeRow, touches, touchedBy}
-use Rattle.touch.specs.Marked.{flagsFit, setWhere, markedOf, marksOf}
+use Rattle.display.specs.Flagged.{flagsFit}
+use Rattle.touch.specs.Marked.{setWhere, markedOf, marksOf}
 use Rattle.touch.specs.Ready.{Marking, rowMeets, spanOf, reachesOf, planesMeet, glyphMeets, nearBank, keptFlag}
 use Rattle.touch.proofs.Anys.{any-zero}
 use Rattle.touch.proofs.Meets.{row-reach, none-near, row-reads}
@@ -50,6 +52,10 @@ module _ (test : ℕ → Bool) (l₀ : List ℕ) where
 -- a row of text and one of graphic
 abbrev pub planeTest : Display → ℕ → ℕ → ℕ → Bool → ℕ → Bool
 planeTest d C at n altered r = altered || (rowMeets (d .text) (r / 8) C at n || rowMeets (d .graphic) (planeRow (d .combination) r) C at n)
+
+-- a line is no later than its rows
+pub plane-row-most : (k : Combination) (row : ℕ) → planeRow k row ≤ row
+plane-row-most k row = cond-has (λ (n : ℕ). n ≤ row) (isAttribute k) (omega arith) (omega arith)
 
 -- told in 16 bits: so many places that these can't say it reach every row
 wide : (S x y : ℕ) (altered : Bool) → x < 65536 → y < 65536 → ((altered || ltb 65535 S) || (ltb x (S % 65536) || ltb y (S % 65536))) ≡ (altered || (ltb x S || ltb y S))

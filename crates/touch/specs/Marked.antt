@@ -6,12 +6,9 @@ use lib.Dec.{eqb}
 use lib.ListN.{length, getD}
 use Rattle.ground.specs.Lists.{build}
 use Rattle.state.specs.State.{validPanel, validDisplay}
+use Rattle.display.specs.Flagged.{flagsFit}
 use Rattle.touch.specs.Types.{Panel, Display}
 use Rattle.touch.specs.Touch.{touchedBy}
-
--- as many as the panel has dot rows
-abbrev pub flagsFit : Panel → List ℕ → Bool
-flagsFit p flags = eqb (length flags) (8 * p .lines)
 
 -- flags are only ever set
 abbrev pub setWhere : Panel → (ℕ → Bool) → List ℕ → List ℕ

@@ -13,7 +13,7 @@ use state::registers::Combination;
 use state::registers::Display;
 use state::registers::Plane;
 
-// Where a row of text or graphic begins.
+// Where a row of text begins.
 fn first_of(plane: Plane, row: usize) -> u16
     ensures { λ r. ⌜ r ≡ (plane .home + row * plane .area) % 65536 ⌝ }
 {
@@ -32,11 +32,13 @@ fn span(columns: usize, n: usize) -> usize
     lesser(n, 65536) + columns - 1
 }
 
-// A row that begins so far from an address on.
+// A row of the panel that begins so far from an address on.
 fn reaches(plane: Plane, row: usize, low: u16, span: u16) -> bool
+    requires { ⌜ row < 256 ⌝ }
     ensures { λ r. ⌜ r ≡ reachesOf plane row low span ⌝ }
 {
-    let start = first_of(plane, row);
+    let down = (row as u16) * (plane.area as u16);
+    let start = std::num::wrapping_add_u16(plane.home, down);
     let from = std::num::wrapping_sub_u16(start, low);
     from < span
 }
@@ -115,7 +117,7 @@ fn kept(set: bool, flag: u8) -> u8
 // By text and graphic or attribute bytes: a subtraction each, no byte read. All in 16 bits, so that many rows are compared at once: so many
 // places that 16 bits can't say it reach every row.
 fn mark_planes(panel: Panel, display: Display, at: u16, n: usize, altered: bool, flags: &mut [u8])
-    requires { ⌜ (0 < panel .columns) × (panel .columns ≤ 80) ⌝ }
+    requires { ⌜ (0 < panel .columns) × (panel .columns ≤ 80) × (panel .lines ≤ 32) ⌝ }
     requires { ⌜ length (now flags) ≡ 8 * panel .lines ⌝ }
     ensures { λ _. ⌜ now (flags .exit) ≡ setWhere panel (λ r. altered || planesMeet panel display at n r) (now (flags .entry)) ⌝ }
 {

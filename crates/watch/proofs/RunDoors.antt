@@ -17,7 +17,7 @@ use Rattle.controller.specs.Skip.{skipStep}
 use Rattle.controller.proofs.Runs.{pairs-length}
 use Rattle.watch.specs.Types.{Panel, Registers, RanOn}
 use Rattle.flags.specs.Flags.{flagStep}
-use Rattle.touch.specs.Marked.{flagsFit}
+use Rattle.display.specs.Flagged.{flagsFit}
 use Rattle.watch.specs.Watched.{RanFlags, ranFlags, begunFlags, ranFlagsOf, ranFlagsNone, flagRunOf}
 
 -- no more pairs than there are

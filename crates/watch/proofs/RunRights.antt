@@ -16,7 +16,7 @@ use Rattle.controller.specs.Run.{Standing, Turn, went, halted, turnOf, short, R
 use Rattle.controller.specs.Skip.{Skipping, skipStep, skipBy}
 use Rattle.controller.proofs.Goings.{Leaves}
 use Rattle.controller.proofs.Laws.{Sounds, sounds, step-sound}
-use Rattle.touch.specs.Marked.{flagsFit}
+use Rattle.display.specs.Flagged.{flagsFit}
 use Rattle.flags.specs.Flags.{Flagged, flagBy, flagStep}
 use Rattle.flags.specs.Claims.{Right}
 use Rattle.flags.proofs.Rights.{RightOf, step-right}

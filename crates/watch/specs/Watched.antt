@@ -9,7 +9,7 @@ use Rattle.display.specs.Frame.{lentLengths}
 use Rattle.effects.specs.Machine.{machine}
 use Rattle.controller.specs.Run.{Standing, Run, runFrom, pairsOf}
 use Rattle.controller.specs.Skip.{Skipping, skipStep, RanOnAll, ranOnAll, ranOnOf, ranOnNone}
-use Rattle.touch.specs.Marked.{flagsFit}
+use Rattle.display.specs.Flagged.{flagsFit}
 use Rattle.flags.specs.Flags.{Flagged, withFlags, flagStep}
 use Rattle.watch.specs.Types.{Panel, Registers, RanOn}
 

@@ -3,7 +3,7 @@ use mathlib.Core.Path.{refl}
 use Prim.Native.Nat.{_-_}
 use native.Mathlib.Omega.{arith}
 use Rattle.ground.proofs.Filling.{Filled, none-yet, as-long}
-use Rattle.touch.proofs.Marks.{markAt, planeTest, planes-one, marks-all}
+use Rattle.touch.proofs.Marks.{markAt, planeTest, plane-row-most, planes-one, marks-all}
 use borrow.Author.Needs.{needs}
 use Rattle.touch.proofs.touch.mark_planes.Statement.{statement}
 use Rattle.touch.proofs.touch.mark_planes.Tie as tie
@@ -24,7 +24,7 @@ wrapping-sub-u16-requires : tie.Need-wrapping-sub-u16-requires Inv-loop μ-loop
 wrapping-sub-u16-requires c κs = search needs
 
 span-requires : tie.Need-span-requires Inv-loop μ-loop
-span-requires c κs = c .before .before .pre .0
+span-requires c κs = let h = c .before .before .pre .0 in (h .0, h .1)
 
 cast-within : tie.Need-cast-within Inv-loop μ-loop
 cast-within c = search needs
@@ -33,13 +33,13 @@ loop-holds : tie.Need-loop-holds Inv-loop μ-loop
 loop-holds c = none-yet _ _
 
 reaches-requires : tie.Need-reaches-requires Inv-loop μ-loop
-reaches-requires c κs = search needs
+reaches-requires c κs = let k = c .before .before .before .before .before in omega (arith, c .loop-test .taken, k .pre .0 .2, k .pre .1)
 
 plane-row-requires : tie.Need-plane-row-requires Inv-loop μ-loop
 plane-row-requires c κs = search needs
 
 reaches-requires-2 : tie.Need-reaches-requires-2 Inv-loop μ-loop
-reaches-requires-2 c κs = search needs
+reaches-requires-2 c κs = let k = c .before .before .before .before .before .before .before in omega (arith, c .before .before .loop-test .taken, k .pre .0 .2, k .pre .1, c .plane-row .ensures, plane-row-most (k .args .display .combination) (c .before .before .before .loop .row))
 
 slice-read-kept : tie.Need-slice-read-kept Inv-loop μ-loop
 slice-read-kept c = omega (arith, as-long _ _ (c .before .before .before .before .before .loop .inv))
@@ -60,7 +60,7 @@ loop-again : tie.Need-loop-again Inv-loop μ-loop
 loop-again c =
     let k = c .before .before .before .before .before .before .before .before .before .before in
     let s = k .args in
-    planes-one (s .display) (s .panel .columns) (s .at) (s .n) (s .altered) (s .flags .now) (c .before .before .before .before .before .before .loop .inv) (c .before .before .before .before .before .loop-test .taken) (k .pre .0) (omega arith) (omega arith)
+    planes-one (s .display) (s .panel .columns) (s .at) (s .n) (s .altered) (s .flags .now) (c .before .before .before .before .before .before .loop .inv) (c .before .before .before .before .before .loop-test .taken) (k .pre .0 .0, k .pre .0 .1) (omega arith) (omega arith)
     (c .before .before .before .before .before .before .before .before .wrapping-sub-u16 .ensures) (c .before .before .before .before .before .before .before .span .ensures) refl (c .before .before .before .before .reaches .ensures) (c .before .before .before .plane-row .ensures) (c .before .before .reaches2 .ensures) (c .kept .ensures)
 
 same-length : tie.Need-same-length Inv-loop μ-loop

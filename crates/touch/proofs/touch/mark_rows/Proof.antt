@@ -6,7 +6,7 @@ use Rattle.touch.proofs.touch.mark_rows.Statement.{statement}
 use Rattle.touch.proofs.touch.mark_rows.Tie as tie
 
 mark-planes-requires : tie.Need-mark-planes-requires
-mark-planes-requires c κs = ((c .before .before .before .pre .0 .wide, c .before .before .before .pre .0 .columns), c .before .before .before .pre .1)
+mark-planes-requires c κs = let s = c .before .before .before in ((s .pre .0 .wide, s .pre .0 .columns, s .pre .0 .lines), s .pre .1)
 
 near-requires : tie.Need-near-requires
 near-requires c κs = c .before .before .before .before .before .before .pre .0 .offset
