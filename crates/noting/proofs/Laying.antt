@@ -1,17 +1,20 @@
 -- Data in auto write, as they follow one another: stored one after the other, and noted where they are in the stretch.
 use mathlib.Core.Path.{_≡_, refl, ap, sym, _∙_}
 use mathlib.Core.Bool.{Bool, true, false, cond, _&&_, _||_, true≢false}
-use mathlib.Core.List.{List, [], _∷_}
+use mathlib.Core.List.{List, [], _∷_, _++_, append-nil}
 use Prim.Native.Nat.{ℕ, zero, suc, _+_, _-_, _*_, _%_, _^_, min, _<_, _≤_}
 use native.Mathlib.Numerals.{add-one}
 use native.Mathlib.Decide.{decLt}
 use native.Mathlib.Omega.{arith}
 use lib.Dec.{ltb, leb}
-use lib.ListN.{length, getD, set, length-set}
+use lib.ListN.{length, getD, set, length-set, length-append}
 use lib.Seq.{sets, length-sets}
 use borrow.Author.Tests.{ltb-true, ltb-false, leb-true, leb-false, le-ltb, le-leb, lt-leb}
+use Rattle.ground.specs.Lists.{build, stored}
 use Rattle.ground.proofs.Conjuncts.{neither}
 use Rattle.ground.proofs.Tests.{both, both-left, both-right}
+use Rattle.turns.specs.Blocked.{pairsFrom, dataOf, bytesFrom, AllData, Blocked}
+use Rattle.turns.proofs.Blocks.{pairAt, pairs-here, data-first, data-none, none-left, data-front, bytes-length, stored-join, block-moves}
 use Rattle.stores.specs.Stores.{fromAddress}
 use Rattle.noting.specs.Stretch.{Store, inStretch}
 use Rattle.noting.specs.Noted.{roomOf, capped, Noting, noting, entryOf, entered, notedBy, notedEach}
@@ -117,6 +120,56 @@ laid-more : (log : List ℕ) (from at : ℕ) (mem : List ℕ) (n : ℕ)
     → set (laid log from at mem n) (fromAddress at n) (getD log (2 * (from + n) + 1) 0) ≡ laid log from at mem (n + 1)
 unfolding laid
 laid-more log from at mem n = ap (laid log from at mem) (sym (add-one n))
+
+laid-stored : (log : List ℕ) (from at : ℕ) (mem : List ℕ) → at < 65536 → (n : ℕ) → stored mem at (bytesFrom log from n) ≡ laid log from at mem n
+unfolding build stored laid
+laid-stored log from at mem h zero = refl
+laid-stored log from at mem h (suc n) =
+    stored-join (bytesFrom log from n) (getD log (2 * (from + n) + 1) 0 ∷ []) mem at h
+    ∙ (λ t. set (laid-stored log from at mem h n t) (fromAddress at (bytes-length log from n t)) (getD log (2 * (from + n) + 1) 0))
+
+-- the data that pairs begin with are data
+data-kinds : (log : List ℕ) (total m i : ℕ) → i + m ≡ total → 2 * total ≤ length log → AllData log i (length (dataOf (pairsFrom log i total)))
+data-kinds log total zero i e l = λ j h. absurd (omega (arith, h, ap length (none-left log total i (omega arith))))
+data-kinds log total (suc m) i e l = go (getD log (2 * i) 0) refl (data-kinds log total m (i + 1) (omega arith) l)
+  where
+    go : (k : ℕ) → getD log (2 * i) 0 ≡ k → AllData log (i + 1) (length (dataOf (pairsFrom log (i + 1) total))) → AllData log i (length (dataOf (pairsFrom log i total)))
+    go zero z rest zero h = let f : i + 0 ≡ i = omega arith in ap (λ (x : ℕ). getD log (2 * x) 0) f ∙ z
+    go zero z rest (suc j) h =
+        let f : i + suc j ≡ i + 1 + j = omega arith in
+        let long = ap length (ap dataOf (pairs-here log total i (omega arith) l) ∙ data-first (pairAt log i) (pairsFrom log (i + 1) total) z) in
+        ap (λ (x : ℕ). getD log (2 * x) 0) f ∙ rest j (omega (arith, h, long))
+    go (suc k) z rest j h =
+        let none = ap length (ap dataOf (pairs-here log total i (omega arith) l) ∙ data-none (pairAt log i) (pairsFrom log (i + 1) total) (λ y. omega (arith, y, z))) in
+        absurd (omega (arith, h, none))
+
+-- a block of data as so many taken of at most n
+module _ {mem : List ℕ} {at : ℕ} {log : List ℕ} {from : ℕ} (n : ℕ) {after : List ℕ} {end : ℕ} (l : 2 * (from + n) ≤ length log) (b : Blocked mem at log from (from + n) after end) where
+  taken-kinds : AllData log from (end - from)
+  taken-kinds j h = data-kinds log (from + n) n from refl l j (omega (arith, h, b .reaches))
+
+  taken-bytes : dataOf (pairsFrom log from (from + n)) ≡ bytesFrom log from (end - from)
+  taken-bytes =
+      let f = data-front log (from + n) from (end - from) (omega (arith, b .inside, b .reaches)) l taken-kinds in
+      f ∙ ap (λ (xs : List ℕ). bytesFrom log from (end - from) ++ xs) (none (dataOf (pairsFrom log (from + (end - from)) (from + n))) (rest (dataOf (pairsFrom log (from + (end - from)) (from + n))) f)) ∙ append-nil (bytesFrom log from (end - from))
+    where
+      none : (xs : List ℕ) → length xs ≡ 0 → xs ≡ []
+      none [] e = refl
+      none (x ∷ xs) e = absurd (omega arith)
+
+      rest : (xs : List ℕ) → dataOf (pairsFrom log from (from + n)) ≡ bytesFrom log from (end - from) ++ xs → length xs ≡ 0
+      rest xs f =
+          omega (arith, ap length f, length-append (bytesFrom log from (end - from)) xs, bytes-length log from (end - from), b .reaches)
+
+  pub puts-taken : Puts log from n at mem after (end - from)
+  puts-taken =
+      record {
+        low = b .low;
+        few = omega (arith, b .inside);
+        some = λ h z. omega (arith, block-moves b (omega arith) l z);
+        kinds = taken-kinds;
+        stores = b .holds ∙ ap (stored mem at) taken-bytes ∙ laid-stored log from at mem (b .low) (end - from);
+      }
 
 -- before datum k
 pub record Blocking (log : List ℕ) (from n at : ℕ) (mem₀ mem : List ℕ) (k : ℕ) : Type 0 where
@@ -247,9 +300,6 @@ module _ {first last at : ℕ} {inside : Bool} (left : ℕ) {span : ℕ} (near :
   wider : {log : List ℕ} {from n : ℕ} {mem after : List ℕ} {k : ℕ} → n ≤ near → (0 < near → 0 < n) → Puts log from n at mem after k → Puts log from left at mem after k
   wider l m b =
       record { low = b .low; few = omega (arith, b .few, e, l); some = λ h z. b .some (m (omega (arith, h, e, s .some))) z; kinds = b .kinds; stores = b .stores }
-
-  pub near-few : (near ≤ 65536) × (near ≤ left)
-  near-few = (omega (arith, e, s .few), omega (arith, e))
 
   pub near-below : (t : Bool) → (inside && t) ≡ true → at + near ≤ 65536
   near-below t h = let b = s .below (sym i ∙ both-left inside t h) in omega (arith, b, e)

@@ -4,11 +4,12 @@ ghost use Prim.Native.Nat.{_+_, _*_, _≤_};
 ghost use lib.ListN.{length};
 ghost use Rattle.noting.specs.Stretch.{inStretch};
 ghost use Rattle.noting.specs.Noted.{noting};
-ghost use Rattle.noting.specs.Laid.{Spans, Puts, Fills, Lays, LaysFrom};
+ghost use Rattle.noting.specs.Laid.{Spans, Fills, Lays, LaysFrom};
 use super::note::in_stretch;
 use super::note::plus;
 use super::note::put_entry;
 use ground::bytes::lesser;
+use turns::block::block;
 
 // So many data taken, the entries needed then.
 pub struct Laid {
@@ -28,25 +29,6 @@ fn span(first: u16, last: u16, at: u16, inside: bool) -> usize
         return 65536 - at as usize;
     }
     std::num::wrapping_sub_u16(first, at) as usize
-}
-
-// At most n data, stored: how many.
-fn block(mem: &mut [u8], start: u16, log: &[u8], from: usize, n: usize) -> usize
-    requires { ⌜ length (now mem) ≡ 65536 ⌝ }
-    requires { ⌜ (2 * (from + n) ≤ length (now log)) × (n ≤ 65536) ⌝ }
-    ensures { λ r. ⌜ Puts (now (log .entry)) from n start (now (mem .entry)) (now (mem .exit)) r ⌝ }
-{
-    let mut k: usize = 0;
-    while k < n {
-        let i = from + k;
-        if log[2 * i] != 0 {
-            return k;
-        }
-        let at = std::num::wrapping_add_u16(start, k as u16);
-        mem[at as usize] = log[2 * i + 1];
-        k += 1;
-    }
-    k
 }
 
 // At most n data, all in the stretch and with room for their entries, stored and entered: how many. No test in it but the kind.
@@ -105,7 +87,7 @@ fn lay_alike(
             count: count + n,
         };
     }
-    let n = block(mem, at, log, from, near);
+    let n = block(mem, at, log, from, from + near) - from;
     if inside {
         return Laid {
             pairs: n,

@@ -4,8 +4,8 @@ use mathlib.Core.Bool.{cond}
 use mathlib.Core.List.{List, [], _∷_}
 use Prim.Native.Nat.{ℕ, _+_, _-_, _*_, _<_, _≤_}
 use lib.Dec.{eqb}
-use lib.ListN.{length, take, drop}
-use Rattle.ground.specs.Lists.{stored}
+use lib.ListN.{length, getD, take, drop}
+use Rattle.ground.specs.Lists.{build, stored}
 use Rattle.sight.specs.Steps.{Pair}
 use Rattle.turns.specs.Pairs.{pairsOf}
 
@@ -17,6 +17,25 @@ pairsFrom log from total = take (total - from) (drop from (pairsOf log))
 unfoldable pub dataOf : List Pair → List ℕ
 dataOf [] = []
 dataOf (q ∷ qs) = cond (eqb (q .kind) 0) (q .byte ∷ dataOf qs) []
+
+-- the bytes of n pairs from a place on
+abbrev pub bytesFrom : List ℕ → ℕ → ℕ → List ℕ
+bytesFrom log from n = build n (λ j. getD log (2 * (from + j) + 1) 0)
+
+-- n pairs from a place on are data
+abbrev pub AllData : List ℕ → ℕ → ℕ → Type 0
+AllData log from n = (j : ℕ) → j < n → getD log (2 * (from + j)) 0 ≡ 0
+
+-- all pairs from one place up to i are data
+pub record Scanning (log : List ℕ) (from total i : ℕ) : Type 0 where
+  pub onward : from ≤ i
+  pub inside : i ≤ total
+  pub kinds : AllData log from (i - from)
+
+-- and the next is none
+pub record Scanned (log : List ℕ) (from total end : ℕ) : Type 0 where
+  pub seen : Scanning log from total end
+  pub stops : end < total → getD log (2 * end) 0 ≡ 0 → ⊥
 
 -- a block of data stored from the pointer on, and the place of the first pair behind it
 pub record Blocked (mem : List ℕ) (start : ℕ) (log : List ℕ) (from total : ℕ) (after : List ℕ) (end : ℕ) : Type 0 where

@@ -2,28 +2,87 @@
 ghost use mathlib.Core.Path.{_≡_};
 ghost use Prim.Native.Nat.{_+_, _*_, _%_, _≤_};
 ghost use lib.ListN.{length};
+ghost use Rattle.ground.specs.Lists.{stored};
 ghost use Rattle.effects.specs.Effect.{withPointer};
-ghost use Rattle.turns.specs.Blocked.{Blocked, Blocks};
+ghost use Rattle.turns.specs.Blocked.{bytesFrom, AllData, Scanning, Scanned, Blocked, Blocks};
+use ground::bytes::lesser;
 use state::registers::Bus;
 
-// The data from a place on, stored from an address on. No test in the loop but the kind.
+// The kinds of sixteen pairs, or-ed together: 0 where all are data.
+fn kinds(log: &[u8], from: usize) -> u8
+    requires { ⌜ 2 * (from + 16) ≤ length (now log) ⌝ }
+    ensures { λ r. ⌜ (r ≡ 0 → AllData (now (log .entry)) from 16) ⌝ }
+{
+    let mut any: u8 = 0;
+    let mut j: usize = 0;
+    while j < 16 {
+        any = any | log[2 * (from + j)];
+        j += 1;
+    }
+    any
+}
+
+// The place behind the data from a place on, as far as they are seen sixteen at a time.
+fn scan_sixteens(log: &[u8], from: usize, total: usize) -> usize
+    requires { ⌜ (2 * total ≤ length (now log)) × (from ≤ total) ⌝ }
+    ensures { λ r. ⌜ Scanning (now (log .entry)) from total r ⌝ }
+{
+    let mut i = from;
+    while i + 16 <= total {
+        if kinds(log, i) != 0 {
+            return i;
+        }
+        i += 16;
+    }
+    i
+}
+
+// The place of the first pair behind the data from a place on.
+fn scan(log: &[u8], from: usize, total: usize) -> usize
+    requires { ⌜ (2 * total ≤ length (now log)) × (from ≤ total) ⌝ }
+    ensures { λ r. ⌜ Scanned (now (log .entry)) from total r ⌝ }
+{
+    let mut i = scan_sixteens(log, from, total);
+    while i < total {
+        if log[2 * i] != 0 {
+            return i;
+        }
+        i += 1;
+    }
+    i
+}
+
+// The bytes of n pairs, stored from an address on, none past the memory's end. No test in the loop: it goes many at a time.
+fn lay(mem: &mut [u8], at: usize, log: &[u8], from: usize, n: usize)
+    requires { ⌜ (length (now mem) ≡ 65536) × (at + n ≤ 65536) ⌝ }
+    requires { ⌜ 2 * (from + n) ≤ length (now log) ⌝ }
+    ensures { λ _. ⌜ now (mem .exit) ≡ stored (now (mem .entry)) at (bytesFrom (now (log .entry)) from n) ⌝ }
+{
+    let mut j: usize = 0;
+    while j < n {
+        mem[at + j] = log[2 * (from + j) + 1];
+        j += 1;
+    }
+}
+
+// The data from a place on, stored from an address on, in stretches that end where the memory does.
 fn store_data(mem: &mut [u8], start: u16, log: &[u8], from: usize, total: usize) -> usize
     requires { ⌜ length (now mem) ≡ 65536 ⌝ }
     requires { ⌜ (2 * total ≤ length (now log)) × (from ≤ total) ⌝ }
     ensures { λ r. ⌜ Blocked (now (mem .entry)) start (now (log .entry)) from total (now (mem .exit)) r ⌝ }
 {
-    let mut pointer = start;
+    let end = scan(log, from, total);
     let mut i = from;
-    while i < total {
-        if log[2 * i] != 0 {
-            return i;
-        }
-        let at = pointer as usize;
-        mem[at] = log[2 * i + 1];
-        pointer = std::num::wrapping_add_u16(pointer, 1);
-        i += 1;
+    let mut left = end - from;
+    let mut at = start as usize;
+    while 0 < left {
+        let n = lesser(left, 65536 - at);
+        lay(mem, at, log, i, n);
+        i += n;
+        left -= n;
+        at = 0;
     }
-    i
+    end
 }
 
 // The data from a place on, as they follow one another, stored from an address on: the place of the first pair behind them; none where less

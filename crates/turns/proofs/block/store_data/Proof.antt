@@ -1,65 +1,62 @@
--- `store_data` meets its contract: what is left to store always comes to the whole.
-use Prim.Native.Nat.{_-_}
-use mathlib.Core.Path.{refl}
+-- `store_data` meets its contract: stretch after stretch, all before it stored.
 use native.Mathlib.Omega.{arith}
 use borrow.Author.Needs.{needs}
-use Rattle.turns.proofs.Blocks.{Blocking, block-on, block-stops, block-ends}
+use Rattle.turns.proofs.Blocks.{Blocking, block-starts, block-long, block-on, block-ends}
 use Rattle.turns.proofs.block.store_data.Statement.{statement}
 use Rattle.turns.proofs.block.store_data.Tie as tie
 
 abbrev Inv-loop : tie.InvT-loop
-Inv-loop mem₀ start log from total pointer₀ i₀ mem pointer i = Blocking mem₀ start log from total mem pointer i
+Inv-loop mem₀ start log from total end i₀ left₀ at₀ mem i left at = Blocking mem₀ start log from end mem at i left
 
 abbrev μ-loop : tie.MeasureT-loop
-μ-loop mem₀ start log from total pointer₀ i₀ mem pointer i = total - i
+μ-loop mem₀ start log from total end i₀ left₀ at₀ mem i left at = left
+
+scan-requires : tie.Need-scan-requires Inv-loop μ-loop
+scan-requires c κs = c .before .before .pre .1
+
+sub-left : tie.Need-sub-left Inv-loop μ-loop
+sub-left c = omega (arith, c .scan .ensures .seen .onward)
 
 loop-holds : tie.Need-loop-holds Inv-loop μ-loop
-loop-holds c = record { first = omega arith; inside = omega (arith, c .before .before .pre .1); room = refl; low = omega arith; left = refl; reach = refl }
+loop-holds c = block-starts _ _ _ _ _ (omega arith) (c .scan .ensures .seen .onward)
 
-mul-if1 : tie.Need-mul-if1 Inv-loop μ-loop
-mul-if1 c = omega (arith, c .before .before .before .before .pre .1 .0, c .before .before .before .before .good)
+sub-lesser : tie.Need-sub-lesser Inv-loop μ-loop
+sub-lesser c = omega (arith, c .before .loop .inv .low)
 
-shared-slice-read-if1 : tie.Need-shared-slice-read-if1 Inv-loop μ-loop
-shared-slice-read-if1 c = omega (arith, c .before .before .before .before .before .pre .1 .0)
+lesser-requires : tie.Need-lesser-requires Inv-loop μ-loop
+lesser-requires c κs = search needs
 
-same-length : tie.Need-same-length Inv-loop μ-loop
-same-length c = c .before .before .before .loop .inv .room
-
-returns : tie.Need-returns Inv-loop μ-loop
-returns c = block-stops (c .before .before .before .loop .inv) (c .before .before .loop-test .taken) (c .before .before .before .before .before .before .pre .1 .0) (c .if1 .taken)
-
-cast-at : tie.Need-cast-at Inv-loop μ-loop
-cast-at c = omega (arith, c .before .before .before .loop .inv .low)
-
-mul-mem : tie.Need-mul-mem Inv-loop μ-loop
-mul-mem c = omega (arith, c .before .before .before .before .before .before .pre .1 .0, c .before .before .before .before .before .before .good)
-
-add-mem : tie.Need-add-mem Inv-loop μ-loop
-add-mem c = omega (arith, c .before .before .before .before .before .before .pre .1 .0, c .before .before .before .before .before .before .good)
-
-shared-slice-read-mem : tie.Need-shared-slice-read-mem Inv-loop μ-loop
-shared-slice-read-mem c = omega (arith, c .before .before .before .before .before .before .before .pre .1 .0)
-
-slice-write-mem : tie.Need-slice-write-mem Inv-loop μ-loop
-slice-write-mem c = omega (arith, c .before .before .before .before .loop .inv .room, c .before .before .before .before .loop .inv .low, c .before .before .before .before .before .before .before .pre .0)
-
-wrapping-add-u16-requires : tie.Need-wrapping-add-u16-requires Inv-loop μ-loop
-wrapping-add-u16-requires c κs = search needs
+lay-requires : tie.Need-lay-requires Inv-loop μ-loop
+lay-requires c κs =
+    let p = c .before .before .before .before .before .before .before .pre in
+    let k = c .before .before .before .loop .inv in
+    let e = c .before .lesser .ensures in
+    let s = c .before .before .before .before .scan .ensures .seen .inside in
+    ((omega (arith, block-long k, p .0), omega (arith, e, k .low)), omega (arith, e, s, k .inside, p .1 .0))
 
 add-i : tie.Need-add-i Inv-loop μ-loop
-add-i c = omega arith
+add-i c =
+    let k = c .before .before .before .before .before .before .loop .inv in
+    omega (arith, c .before .before .before .before .lesser .ensures, k .inside)
+
+sub-left-2 : tie.Need-sub-left-2 Inv-loop μ-loop
+sub-left-2 c = omega (arith, c .before .before .before .before .lesser .ensures)
 
 loop-less : tie.Need-loop-less Inv-loop μ-loop
-loop-less c = omega arith
+loop-less c =
+    let k = c .before .before .before .before .before .before .loop .inv in
+    omega (arith, c .before .before .before .before .lesser .ensures, c .before .before .before .before .before .loop-test .taken, k .low)
 
 loop-again : tie.Need-loop-again Inv-loop μ-loop
-loop-again c = block-on (c .before .before .before .before .before .loop .inv) (c .before .before .before .before .loop-test .taken) (c .before .before .before .before .before .before .before .before .pre .1 .0) (c .before .before .if1 .left) refl (c .wrapping-add-u16 .ensures)
+loop-again c =
+    let k = c .before .before .before .before .before .before .loop .inv in
+    block-on k (c .before .before .before .before .before .loop-test .taken) (c .before .before .before .before .lesser .ensures) (c .before .before .lay .ensures)
 
-same-length-2 : tie.Need-same-length-2 Inv-loop μ-loop
-same-length-2 c = c .before .loop .inv .room
+same-length : tie.Need-same-length Inv-loop μ-loop
+same-length c = block-long (c .before .loop .inv)
 
-returns-2 : tie.Need-returns-2 Inv-loop μ-loop
-returns-2 c = block-ends (c .before .loop .inv) (c .loop-test .left)
+returns : tie.Need-returns Inv-loop μ-loop
+returns c = block-ends (c .before .loop .inv) (c .before .before .scan .ensures) (c .before .before .before .before .before .pre .1 .0) (c .loop-test .left)
 
 pub store-data-spec : {M : Type 1} → statement M
 store-data-spec =
@@ -67,19 +64,15 @@ store-data-spec =
     (tie.spec
     Inv-loop
     μ-loop
+    scan-requires
+    sub-left
     loop-holds
-    mul-if1
-    shared-slice-read-if1
-    same-length
-    returns
-    cast-at
-    mul-mem
-    add-mem
-    shared-slice-read-mem
-    slice-write-mem
-    wrapping-add-u16-requires
+    sub-lesser
+    lesser-requires
+    lay-requires
     add-i
+    sub-left-2
     loop-less
     loop-again
-    same-length-2
-    returns-2)
+    same-length
+    returns)
