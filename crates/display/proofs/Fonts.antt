@@ -2,7 +2,7 @@
 use mathlib.Core.Path.{_≡_, ap, sym, _∙_}
 use mathlib.Core.List.{List, _++_}
 use mathlib.Core.Bool.{Bool, true, false, cond, not, _&&_}
-use Prim.Native.Nat.{ℕ, _+_, _-_, _*_, _/_, _%_, _^_, _<_, _≤_}
+use Prim.Native.Nat.{ℕ, _+_, _-_, _*_, _/_, _%_, _^_, _<_}
 use native.Mathlib.Decide.{decLt}
 use native.Mathlib.Omega.{arith}
 use lib.Dec.{ltb}
@@ -14,7 +14,7 @@ use Rattle.ground.proofs.Lists.{build-length, build-at, build-cong}
 use Rattle.display.specs.Types.{Panel, Display}
 use Rattle.display.specs.Displayed.{addressOf, textCode, glyphRow, glyphDots}
 use Rattle.display.specs.Shaded.{fontOf}
-use Rattle.display.proofs.Passes.{bytesFrom, glyphIn}
+use Rattle.display.proofs.Passes.{roundByte, glyphIn}
 
 -- a byte of a stretch of memory
 pub stretch-at : (mem : List ℕ) (b n j : ℕ) → j < n → getD (take n (drop b mem)) j 0 ≡ getD mem (b + j) 0
@@ -98,16 +98,16 @@ module _ (d : Display) (mem rom : List ℕ) where
 -- the codes of a line, looked up
 module _ (p : Panel) (d : Display) (mem rom : List ℕ) (r first : ℕ) where
   pub looked-up : {start : ℕ} {font codes : List ℕ} (n : ℕ) → start ≡ addressOf (d .text) (r / 8) first → font ≡ fontOf d mem rom → ((i : ℕ) → getD mem i 0 < 256)
-      → codes ≡ build n (bytesFrom 8 mem start)
+      → codes ≡ build n (roundByte 8 mem start)
       → build (length codes) (glyphIn (p .width) font (r % 8) codes) ≡ build n (λ j. glyphDots p d mem rom r (first + j))
   unfolding glyphDots textCode
   looked-up {start} {font} {codes} n s f bytes k =
-      ap (λ (m : ℕ). build m (glyphIn (p .width) font (r % 8) codes)) (ap length k ∙ build-length n (bytesFrom 8 mem start))
+      ap (λ (m : ℕ). build m (glyphIn (p .width) font (r % 8) codes)) (ap length k ∙ build-length n (roundByte 8 mem start))
       ∙ build-cong n _ _
       (λ j h.
       let at : (start + j) % 65536 ≡ addressOf (d .text) (r / 8) (first + j) = omega (arith, s) in
       let small = bytes (addressOf (d .text) (r / 8) (first + j)) in
       let code : getD codes j 0 ≡ getD mem (addressOf (d .text) (r / 8) (first + j)) 0 =
-      ap (λ (x : List ℕ). getD x j 0) k ∙ build-at n (bytesFrom 8 mem start) j 0 h ∙ ap (λ (m : ℕ). getD mem m 0 % 2 ^ 8) at ∙ (omega (arith, small)) in
+      ap (λ (x : List ℕ). getD x j 0) k ∙ build-at n (roundByte 8 mem start) j 0 h ∙ ap (λ (m : ℕ). getD mem m 0 % 2 ^ 8) at ∙ (omega (arith, small)) in
       (λ q. getD (f q) (8 * code q + r % 8) 0 % 2 ^ p .width)
       ∙ ap (λ (x : ℕ). x % 2 ^ p .width) (font-at d mem rom (getD mem (addressOf (d .text) (r / 8) (first + j)) 0) (r % 8) small (omega arith)))

@@ -1,7 +1,7 @@
 -- The cells of a row, layer by layer: glyphs, attributes, graphic, cursor.
 use mathlib.Core.Path.{_≡_, refl, ap, sym, _∙_}
 use mathlib.Core.Bool.{Bool, true, false, cond, not, _&&_, true≢false}
-use mathlib.Core.List.{List, _++_}
+use mathlib.Core.List.{List}
 use mathlib.Core.Logic.{_⊎_, ⊎-elim}
 use Prim.Native.Nat.{ℕ, _+_, _-_, _*_, _/_, _%_, _^_, _<_, _≤_, min}
 use native.Mathlib.Nat.{mod-eq-of-lt}
@@ -10,13 +10,13 @@ use native.Mathlib.Omega.{arith}
 use lib.Dec.{ltb, leb, eqb}
 use lib.Bits.{bitAnd, bitOr, and-zero-r, or-zero-l, or-zero-r, and-mask}
 use lib.Pow.{ones-sub-lt}
-use lib.ListN.{length, getD, drop, set, length-set}
-use lib.Seq.{getD-append-add, getD-drop, getD-set-same, getD-set-other, ext-getD}
+use lib.ListN.{length, getD, set, length-set}
+use lib.Seq.{getD-set-same, getD-set-other, ext-getD}
 use borrow.Author.Tests.{ne-eqb, ltb-true, lt-ltb, le-ltb}
 use Rattle.ground.specs.Lists.{build}
 use Rattle.ground.proofs.Lists.{build-length, build-at, build-cong}
 use Rattle.ground.specs.Packing.{rowBytes, rowFrom, packOf}
-use Rattle.ground.proofs.Filling.{Filled, none-yet, one-more}
+use Rattle.ground.proofs.Filling.{Filled, none-yet, one-more, unwritten}
 use Rattle.ground.proofs.Packs.{packed-by-rule}
 use Rattle.ground.proofs.Tests.{both-right}
 use Rattle.display.specs.Types.{Panel, Display, Combination, Or, Exor, And, Attribute, Manner, Normal, Reverse, Inhibit}
@@ -27,14 +27,6 @@ use Rattle.state.specs.Halves.{cursorY}
 use Rattle.display.specs.Displayed.{addressOf, attributeByte, mixed, glyphDots, textDots, graphicDots, displayedByte, cursorLit, cursorCovers, cellByte}
 use Rattle.state.specs.Attribute.{lookOf, shownAs, attributed, shadesOf}
 use Rattle.state.specs.Combination.{isAttribute}
-
--- what is not written yet is as it was
-pub unwritten : (f : ℕ → ℕ) (l₀ : List ℕ) {l : List ℕ} {n : ℕ} → Filled f l₀ l n → getD l n 0 ≡ getD l₀ n 0
-unwritten f l₀ {l} {n} k =
-    ap (λ (x : List ℕ). getD x n 0) (k .holds)
-    ∙ ap (λ (m : ℕ). getD (build n f ++ drop n l₀) m 0) (omega (arith, build-length n f))
-    ∙ getD-append-add (build n f) (drop n l₀) 0 0 ∙ getD-drop n l₀ 0 0
-    ∙ ap (λ (m : ℕ). getD l₀ m 0) (omega arith)
 
 -- a pass: the cells filled up to n by a rule, the layer's address at cell n
 pub record Going (f : ℕ → ℕ) (start : ℕ) (l₀ l : List ℕ) (at n : ℕ) : Type 0 where
@@ -238,12 +230,12 @@ front-of f n xs text e h k =
     k ∙ build-cong (length text) _ f (λ j l. ap (λ (x : List ℕ). getD x j 0) e ∙ build-at n f j 0 (omega arith))
 
 -- the graphic given out: bytes from an address on, round, their low w bits
-abbrev pub bytesFrom : ℕ → List ℕ → ℕ → ℕ → ℕ
-bytesFrom w mem start n = getD mem ((start + n) % 65536) 0 % 2 ^ w
+abbrev pub roundByte : ℕ → List ℕ → ℕ → ℕ → ℕ
+roundByte w mem start n = getD mem ((start + n) % 65536) 0 % 2 ^ w
 
 module _ (p : Panel) (d : Display) (mem : List ℕ) (r first n : ℕ) {b : Bool} (i : b ≡ (d .bits .graphic && not (isAttribute (d .combination)))) where
   pub lit-graphic : {start : ℕ} {l : List ℕ} → b ≡ true → start ≡ addressOf (d .graphic) r first
-      → l ≡ build n (bytesFrom (p .width) mem start) → l ≡ build n (λ j. graphicDots p d mem r (first + j))
+      → l ≡ build n (roundByte (p .width) mem start) → l ≡ build n (λ j. graphicDots p d mem r (first + j))
   lit-graphic {start} e s h =
       h
       ∙ build-cong n _ _

@@ -3,9 +3,10 @@ use mathlib.Core.Path.{_≡_, refl, ap, subst, _∙_}
 use mathlib.Core.List.{List, _++_}
 use Prim.Native.Nat.{ℕ, _+_, _<_, _≤_}
 use native.Mathlib.Omega.{arith}
-use lib.ListN.{length, drop, set}
+use lib.ListN.{length, getD, drop, set}
+use lib.Seq.{getD-append-add, getD-drop}
 use Rattle.ground.specs.Lists.{build}
-use Rattle.ground.proofs.Lists.{filled-length, filled-more, filled-all}
+use Rattle.ground.proofs.Lists.{build-length, filled-length, filled-more, filled-all}
 
 pub record Filled (f : ℕ → ℕ) (l₀ l : List ℕ) (n : ℕ) : Type 0 where
   pub inside : n ≤ length l₀
@@ -27,6 +28,13 @@ module _ (f : ℕ → ℕ) (l₀ : List ℕ) where
     at-end m e h =
         let i : n ≡ m = omega (arith, k .inside) in
         k .holds ∙ filled-all n f l₀ h ∙ ap (λ (x : ℕ). build x f) i
+
+  -- what is not written yet is as it was
+  pub unwritten : {l : List ℕ} {n : ℕ} → Filled f l₀ l n → getD l n 0 ≡ getD l₀ n 0
+  unwritten {l} {n} k =
+      ap (λ (x : List ℕ). getD x n 0) (k .holds)
+      ∙ ap (λ (m : ℕ). getD (build n f ++ drop n l₀) m 0) (let e : n ≡ length (build n f) + 0 = omega (arith, build-length n f) in e)
+      ∙ getD-append-add (build n f) (drop n l₀) 0 0 ∙ getD-drop n l₀ 0 0 ∙ ap (λ (m : ℕ). getD l₀ m 0) (let e : n + 0 ≡ n = omega arith in e)
 
   -- three at once
   pub three-more : {l : List ℕ} {n m : ℕ} → Filled f l₀ l n → n + 2 < length l₀ → n + 3 ≡ m → {u v w : ℕ} → u ≡ f n → v ≡ f (n + 1) → w ≡ f (n + 2)

@@ -1,16 +1,16 @@
 -- The flags row by row: each as it was until it is written.
 use mathlib.Core.Path.{_≡_, refl, ap, sym, _∙_}
 use mathlib.Core.Bool.{Bool, true, false, cond, _&&_, _||_}
-use mathlib.Core.List.{List, _++_}
+use mathlib.Core.List.{List}
 use Prim.Native.Nat.{ℕ, _+_, _-_, _*_, _/_, _%_, _<_, _≤_}
 use native.Mathlib.Omega.{arith}
 use lib.Dec.{ltb, eqb}
-use lib.ListN.{length, getD, drop, set}
-use lib.Seq.{getD-append-add, getD-drop, ext-getD}
+use lib.ListN.{length, getD, set}
+use lib.Seq.{ext-getD}
 use borrow.Author.Tests.{ltb-true, ltb-false, lt-ltb, eqb-true}
 use Rattle.ground.specs.Lists.{build}
 use Rattle.ground.proofs.Lists.{build-length, build-at, build-cong}
-use Rattle.ground.proofs.Filling.{Filled, one-more, at-end}
+use Rattle.ground.proofs.Filling.{Filled, one-more, at-end, unwritten}
 use Rattle.ground.proofs.Conjuncts.{neither}
 use Rattle.ground.proofs.Tests.{cond-has, both-left, both-right}
 use Rattle.state.specs.State.{validPanel, validDisplay}
@@ -25,13 +25,6 @@ use Rattle.touch.specs.Ready.{Marking, rowMeets, spanOf, reachesOf, plan
 use Rattle.touch.proofs.Anys.{any-zero}
 use Rattle.touch.proofs.Meets.{row-reach, none-near, row-reads}
 
--- what is not written yet
-still : (f : ℕ → ℕ) (l₀ : List ℕ) {l : List ℕ} {n : ℕ} → Filled f l₀ l n → getD l n 0 ≡ getD l₀ n 0
-still f l₀ {l} {n} k =
-    ap (λ (x : List ℕ). getD x n 0) (k .holds)
-    ∙ ap (λ (m : ℕ). getD (build n f ++ drop n l₀) m 0) (let e : n ≡ length (build n f) + 0 = omega (arith, build-length n f) in e)
-    ∙ getD-append-add (build n f) (drop n l₀) 0 0 ∙ getD-drop n l₀ 0 0 ∙ ap (λ (m : ℕ). getD l₀ m 0) (let e : n + 0 ≡ n = omega arith in e)
-
 -- a list by its own index
 pub same-list : (l : List ℕ) (n : ℕ) → length l ≡ n → build n (λ r. getD l r 0) ≡ l
 same-list l n e =
@@ -44,7 +37,7 @@ module _ (test : ℕ → Bool) (l₀ : List ℕ) where
   markAt r = cond (test r) 1 (getD l₀ r 0)
 
   pub marks-one : {l : List ℕ} {row v : ℕ} → Filled markAt l₀ l row → row < length l₀ → v ≡ keptFlag (test row) (getD l row 0) → Filled markAt l₀ (set l row v) (row + 1)
-  marks-one {l} {row} k h f = one-more markAt l₀ k h (f ∙ (λ i. cond (test row) 1 (still markAt l₀ k i)))
+  marks-one {l} {row} k h f = one-more markAt l₀ k h (f ∙ (λ i. cond (test row) 1 (unwritten markAt l₀ k i)))
 
   pub marks-all : (p : Panel) {l : List ℕ} {row : ℕ} → Filled markAt l₀ l row → length l₀ ≡ 8 * p .lines → length l₀ ≤ row → l ≡ setWhere p test l₀
   marks-all p k e h = at-end markAt l₀ k (8 * p .lines) e h

@@ -3,8 +3,8 @@ use mathlib.Core.Path.{refl, ap, _∙_}
 use Prim.Native.Nat.{ℕ, _+_, _-_, _*_, _%_, _^_}
 use native.Mathlib.Omega.{arith}
 use lib.ListN.{getD}
-use Rattle.ground.proofs.Filling.{Filled, none-yet, as-long, one-more, at-end}
-use Rattle.display.proofs.Passes.{unwritten, glyphIn}
+use Rattle.ground.proofs.Filling.{Filled, none-yet, as-long, one-more, at-end, unwritten}
+use Rattle.display.proofs.Passes.{glyphIn}
 use borrow.Author.Needs.{needs}
 use Rattle.display.proofs.font.look_up.Statement.{statement}
 use Rattle.display.proofs.font.look_up.Tie as tie

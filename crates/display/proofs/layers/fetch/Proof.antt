@@ -4,13 +4,13 @@ use Prim.Native.Nat.{ℕ, _-_, _%_, _^_}
 use native.Mathlib.Omega.{arith}
 use lib.ListN.{getD}
 use Rattle.ground.proofs.Filling.{as-long, at-end}
-use Rattle.display.proofs.Passes.{Going, goes-from, goes-on, bytesFrom}
+use Rattle.display.proofs.Passes.{Going, goes-from, goes-on, roundByte}
 use borrow.Author.Needs.{needs}
 use Rattle.display.proofs.layers.fetch.Statement.{statement}
 use Rattle.display.proofs.layers.fetch.Tie as tie
 
 abbrev Inv-loop : tie.InvT-loop
-Inv-loop width mem start out₀ at₀ j₀ j-end out at j = Going (bytesFrom width mem start) start out₀ out at j
+Inv-loop width mem start out₀ at₀ j₀ j-end out at j = Going (roundByte width mem start) start out₀ out at j
 
 abbrev μ-loop : tie.MeasureT-loop
 μ-loop width mem start out₀ at₀ j₀ j-end out at j = j-end - j
