@@ -6,17 +6,12 @@ use lib.Dec.{eqb}
 use lib.ListN.{length}
 use borrow.Author.Tests.{eqb-true}
 use Rattle.ground.proofs.Tests.{both, both-left, both-right}
-use Rattle.state.specs.State.{validPanel, validRegisters, validBus}
-use Rattle.sight.specs.Ready.{Seeing}
-use Rattle.sight.proofs.Readied.{ready}
+use Rattle.state.specs.State.{validPanel, validRegisters}
 use Rattle.effects.specs.Machine.{machine}
 use Rattle.single.proofs.Acts.{access-0}
 use Rattle.controller.specs.Types.{Panel, Registers}
 use Rattle.controller.specs.Access.{Pair, stepOf, actedOf, accessOf}
 use Rattle.controller.specs.Ready.{Runs}
-
-pub ready-runs : {p : Panel} {r : Registers} {mem rom : List ℕ} → Runs p r mem rom → Seeing p (r .display) mem rom
-ready-runs {p} {r} {mem} {rom} k = ready p (r .display) mem rom (k .panel) (both-left _ (validBus (r .bus)) (k .state)) (k .lent)
 
 pub runs-lengths : {p : Panel} {r : Registers} {mem rom : List ℕ} → Runs p r mem rom → (length mem ≡ 65536) × (length rom ≡ 1024)
 runs-lengths {p} {r} {mem} {rom} k =

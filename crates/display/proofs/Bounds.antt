@@ -1,15 +1,15 @@
--- The layers have 0 above their w bits, and so has a cell's byte.
+-- The layers have 0 above their w bits.
 use mathlib.Core.List.{List}
 use mathlib.Core.Bool.{_&&_, not}
 use mathlib.Core.Logic.{_⊎_, ⊎-elim}
-use Prim.Native.Nat.{ℕ, _/_, _%_, _^_, _<_, _≤_}
+use Prim.Native.Nat.{ℕ, _^_, _<_, _≤_}
 use native.Mathlib.Nat.{mod-lt}
 use native.Mathlib.Omega.{arith}
-use lib.Pow.{pow-pos, ones-lt}
+use lib.Pow.{pow-pos}
 use Rattle.state.proofs.Widths.{cond-lt, combined-lt, attributed-lt}
 use Rattle.display.specs.Types.{Panel, Display}
 use Rattle.state.specs.Combination.{isAttribute}
-use Rattle.display.specs.Displayed.{glyphDots, textDots, graphicDots, displayedByte, cursorLit, cursorCovers, cellByte}
+use Rattle.display.specs.Displayed.{glyphDots, textDots, graphicDots, displayedByte}
 use Rattle.display.specs.Drawable.{Drawable}
 use Rattle.display.specs.Layers.{layersAt}
 
@@ -43,10 +43,3 @@ module _ (p : Panel) (d : Display) (mem rom : List ℕ) (r c : ℕ) where
   -- all three layers
   pub layers-lt : (layersAt p d mem rom r c .text < 2 ^ p .width) × (layersAt p d mem rom r c .graphic < 2 ^ p .width) × (layersAt p d mem rom r c .shown < 2 ^ p .width)
   layers-lt = (text-lt, graphic-lt, displayed-lt)
-
-  pub cell-lt : cellByte p d mem rom r c < 2 ^ p .width
-  unfolding cellByte
-  cell-lt =
-      cond-lt (p .width)
-      (cursorLit (d .bits .cursor) (d .bits .blink) (d .phase) && cursorCovers p (d .cursor) (r / 8) (r % 8) c) _ _
-      (ones-lt (p .width)) displayed-lt

@@ -6,7 +6,7 @@ use Prim.Native.Nat.{ℕ, _-_, _/_, _%_, _^_}
 use lib.ListN.{getD}
 use borrow.Author.Tests.{not-true, not-false}
 use Rattle.display.specs.Types.{Panel, Display}
-use Rattle.display.specs.Displayed.{addressOf, textCode, glyphRow, graphicByte, attributeByte, textLayer, mixed, glyphDots, textDots, graphicDots, displayedByte, cursorLit, cursorCovers, cellByte}
+use Rattle.display.specs.Displayed.{addressOf, graphicByte, attributeByte, textLayer, mixed, glyphDots, textDots, graphicDots, displayedByte, cursorLit, cursorCovers, cellByte}
 use Rattle.state.specs.Attribute.{attributed}
 use Rattle.state.specs.Combination.{isAttribute}
 
@@ -20,11 +20,6 @@ module _ (t g a : Bool) (x y : ℕ) where
 
   layer-shown : not t ≡ false → (a && g) ≡ true → x ≡ textLayer t g a x y
   layer-shown e f = rw (not-false t e, f)
-
-pub attribute-byte : (d : Display) (mem : List ℕ) (l c : ℕ) {at a : ℕ} → at ≡ addressOf (d .graphic) l c → a ≡ getD mem at 0
-    → a ≡ attributeByte d mem l c
-unfolding attributeByte
-attribute-byte d mem l c e f = cc
 
 module _ (p : Panel) (d : Display) (mem : List ℕ) (r c : ℕ) where
   -- what the code tests for the graphic layer
@@ -44,11 +39,6 @@ module _ (p : Panel) (d : Display) (mem : List ℕ) (r c : ℕ) where
   graphic-off i e = sym (ap (λ (v : Bool). cond v (graphicByte d mem r c % 2 ^ p .width) 0) (shows-graphic false i e))
 
 module _ (p : Panel) (d : Display) (mem rom : List ℕ) (r c : ℕ) where
-  pub glyph-dots : {at code n x : ℕ} → at ≡ addressOf (d .text) (r / 8) c → code ≡ getD mem at 0
-      → n ≡ glyphRow d mem rom code (r % 8) → x ≡ n % 2 ^ p .width → x ≡ glyphDots p d mem rom r c
-  unfolding glyphDots textCode
-  glyph-dots e f h k = cc
-
   pub text-off : not (d .bits .text) ≡ true → 0 ≡ textDots p d mem rom r c
   unfolding textDots
   text-off e = layer-off (d .bits .text) (d .bits .graphic) (isAttribute (d .combination)) _ _ e

@@ -10,17 +10,13 @@ use Rattle.ground.specs.Lists.{build}
 use Rattle.ground.specs.Packing.{packed}
 use Rattle.ground.proofs.Filling.{Filled, one-more, at-end}
 use Rattle.ground.proofs.Lists.{build-length, build-at}
-use Rattle.ground.proofs.Packing.{packed-lt, packed-bit}
+use Rattle.ground.proofs.Packing.{packed-bit}
 use Rattle.ground.proofs.Sixes.{bits}
 use Rattle.display.proofs.Passes.{still}
 use Rattle.mirror.specs.Order.{mirrored}
 
 bit-lt : (n k : ℕ) → bitOf n k < 2
 bit-lt n k = omega arith
-
-pub mirror-lt : (n : ℕ) → mirrored n < 256
-unfolding mirrored
-mirror-lt n = packed-lt (bitOf n) (bit-lt n) 0 8
 
 -- bit k of a mirrored byte is bit 7 - k
 pub mirror-bit : (n k : ℕ) → k < 8 → bitOf (mirrored n) k ≡ bitOf n (7 - k)
