@@ -53,7 +53,7 @@ fn scan(log: &[u8], from: usize, total: usize) -> usize
 }
 
 // The bytes of n pairs, stored from an address on, none past the memory's end. No test in the loop: it goes many at a time.
-fn lay(mem: &mut [u8], at: usize, log: &[u8], from: usize, n: usize)
+fn store_stretch(mem: &mut [u8], at: usize, log: &[u8], from: usize, n: usize)
     requires { ⌜ (length (now mem) ≡ 65536) × (at + n ≤ 65536) ⌝ }
     requires { ⌜ 2 * (from + n) ≤ length (now log) ⌝ }
     ensures { λ _. ⌜ now (mem .exit) ≡ stored (now (mem .entry)) at (bytesFrom (now (log .entry)) from n) ⌝ }
@@ -97,7 +97,7 @@ fn store_data(mem: &mut [u8], start: u16, log: &[u8], from: usize, total: usize)
     let mut at = start as usize;
     while 0 < left {
         let n = lesser(left, 65536 - at);
-        lay(mem, at, log, i, n);
+        store_stretch(mem, at, log, i, n);
         i += n;
         left -= n;
         at = 0;
