@@ -8,7 +8,7 @@ use native.Mathlib.Decide.{decLt}
 use native.Mathlib.Omega.{arith}
 use lib.Dec.{eqb, leb}
 use lib.Bits.{bitOr, or-add-and, and-le-l, and-le-r}
-use lib.ListN.{length, getD, take, drop, set}
+use lib.ListN.{length, getD, take, drop, set, length-append}
 use lib.Seq.{append-snoc}
 use borrow.Author.Tests.{eq-eqb, ne-eqb, eqb-true, leb-true, le-leb}
 use Rattle.ground.specs.Lists.{build, stored}
@@ -17,7 +17,7 @@ use Rattle.ground.proofs.Stores.{stored-length}
 use Rattle.ground.proofs.Tests.{both, both-left, both-right}
 use Rattle.sight.specs.Steps.{Pair}
 use Rattle.turns.specs.Pairs.{pairsOf}
-use Rattle.turns.specs.Blocked.{pairsFrom, dataOf, bytesFrom, AllData, Scanning, Scanned, Blocked}
+use Rattle.turns.specs.Blocked.{pairsFrom, dataOf, bytesFrom, AllData, Scanning, Scanned, Begun, Blocked}
 
 -- the pair at a place of a log
 abbrev pub pairAt : List ℕ → ℕ → Pair
@@ -126,6 +126,83 @@ build-join f k zero = ap (λ (x : ℕ). build x f) (let e : k + 0 ≡ k = omega 
 build-join f k (suc n) =
     ap (λ (x : ℕ). build x f) (let e : k + suc n ≡ suc (k + n) = omega arith in e) ∙ ap (λ (xs : List ℕ). xs ++ (f (k + n) ∷ [])) (build-join f k n)
     ∙ append-assoc (build k f) (build n (λ j. f (k + j))) (f (k + n) ∷ [])
+
+-- before pair i, one by one
+pub record Beginning (m₀ : List ℕ) (start : ℕ) (log : List ℕ) (from total : ℕ) (m : List ℕ) (at i : ℕ) : Type 0 where
+  pub first : start < 65536
+  pub seen : Scanning log from total i
+  pub low : at < 65536
+  pub place : at ≡ (start + (i - from)) % 65536
+  pub holds : m ≡ stored m₀ start (bytesFrom log from (i - from))
+
+pub begins : (m₀ : List ℕ) (start : ℕ) (log : List ℕ) (from total : ℕ) → start < 65536 → from ≤ total → Beginning m₀ start log from total m₀ start from
+unfolding build stored
+begins m₀ start log from total h l =
+    record {
+      first = h;
+      seen = record { onward = omega arith; inside = l; kinds = λ j m. absurd (omega arith) };
+      low = h;
+      place = omega arith;
+      holds = ap (λ (n : ℕ). stored m₀ start (bytesFrom log from n)) (let e : 0 ≡ from - from = omega arith in e);
+    }
+
+module _ {m₀ : List ℕ} {start : ℕ} {log : List ℕ} {from total : ℕ} {m : List ℕ} {at i : ℕ} (k : Beginning m₀ start log from total m at i) where
+  pub begin-long : length m ≡ length m₀
+  begin-long = ap length (k .holds) ∙ stored-length m₀ start (bytesFrom log from (i - from))
+
+  pub begin-on : i < total → {b next : ℕ} → getD log (2 * i) 0 ≡ 0 → b ≡ getD log (2 * i + 1) 0 → next ≡ (at + 1) % 65536
+      → Beginning m₀ start log from total (set m at b) next (i + 1)
+  unfolding stored
+  begin-on h {b} z e n =
+      let c : ℕ = i - from in
+      let here : at ≡ (start + length (bytesFrom log from c)) % 65536 = omega (arith, k .place, bytes-length log from c) in
+      let byte : b ≡ getD log (2 * (from + c) + 1) 0 = e ∙ ap (λ (x : ℕ). getD log (2 * x + 1) 0) (let f : i ≡ from + c = omega (arith, k .seen .onward) in f) in
+      record {
+        first = k .first;
+        seen = scan-one (k .seen) h z;
+        low = omega arith;
+        place = omega (arith, n, k .place, k .seen .onward);
+        holds = (λ t. set (k .holds t) (here t) (byte t))
+            ∙ sym (stored-join (bytesFrom log from c) (getD log (2 * (from + c) + 1) 0 ∷ []) m₀ start (k .first))
+            ∙ ap (stored m₀ start) (sym (build-more c (λ j. getD log (2 * (from + j) + 1) 0)))
+            ∙ ap (λ (x : ℕ). stored m₀ start (bytesFrom log from x)) (let f : c + 1 ≡ i + 1 - from = omega (arith, k .seen .onward) in f);
+      }
+
+  pub begin-stops : (getD log (2 * i) 0 ≡ 0 → ⊥) → Begun m₀ start log from total m i
+  begin-stops z = record { low = k .first; scanned = record { seen = k .seen; stops = λ h. z }; holds = k .holds }
+
+  pub begin-ends : total ≤ i → Begun m₀ start log from total m i
+  begin-ends h = record { low = k .first; scanned = record { seen = k .seen; stops = λ l. absurd (omega arith) }; holds = k .holds }
+
+-- stopped among the first, or gone on behind them
+module _ {mem : List ℕ} {start : ℕ} {log : List ℕ} {from near total : ℕ} {mid : List ℕ} {first : ℕ} (b : Begun mem start log from near mid first) (few : near ≤ total) (l : 2 * total ≤ length log) where
+  pub begun-stops : first < near → Blocked mem start log from total mid first
+  begun-stops h =
+      let s : Scanned log from total first =
+      record { seen = record { onward = b .scanned .seen .onward; inside = omega arith; kinds = b .scanned .seen .kinds }; stops = λ m. b .scanned .stops h } in
+      let d = data-scanned s l in
+      record {
+        low = b .low;
+        inside = omega arith;
+        holds = b .holds ∙ sym (ap (stored mem start) d);
+        reaches = let a = ap length d ∙ bytes-length log from (first - from) in omega (arith, a, b .scanned .seen .onward);
+      }
+
+  pub begun-on : near ≤ first → {next : ℕ} → next ≡ (start + (first - from)) % 65536 → {after : List ℕ} {end : ℕ} → Blocked mid next log first total after end
+      → Blocked mem start log from total after end
+  begun-on h {next} e {after} {end} k =
+      let n : ℕ = first - from in
+      let i : from + n ≡ first = omega (arith, b .scanned .seen .onward) in
+      let d = data-front log total from n (omega (arith, b .scanned .seen .onward, b .scanned .seen .inside, few)) l (b .scanned .seen .kinds)
+      ∙ ap (λ (x : ℕ). bytesFrom log from n ++ dataOf (pairsFrom log x total)) i in
+      let there : next ≡ (start + length (bytesFrom log from n)) % 65536 = omega (arith, e, bytes-length log from n) in
+      record {
+        low = b .low;
+        inside = k .inside;
+        holds = k .holds ∙ (λ t. stored (b .holds t) (there t) (dataOf (pairsFrom log first total)))
+            ∙ sym (stored-join (bytesFrom log from n) (dataOf (pairsFrom log first total)) mem start (b .low)) ∙ ap (stored mem start) (sym d);
+        reaches = let a = ap length d ∙ length-append (bytesFrom log from n) (dataOf (pairsFrom log first total)) in omega (arith, a, bytes-length log from n, i, k .reaches);
+      }
 
 -- before byte j of a stretch
 pub record Laying (m₀ : List ℕ) (at : ℕ) (log : List ℕ) (from n : ℕ) (m : List ℕ) (j : ℕ) : Type 0 where

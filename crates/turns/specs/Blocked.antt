@@ -37,6 +37,12 @@ pub record Scanned (log : List ℕ) (from total end : ℕ) : Type 0 where
   pub seen : Scanning log from total end
   pub stops : end < total → getD log (2 * end) 0 ≡ 0 → ⊥
 
+-- the data up to there stored from an address on
+pub record Begun (mem : List ℕ) (start : ℕ) (log : List ℕ) (from total : ℕ) (after : List ℕ) (end : ℕ) : Type 0 where
+  pub low : start < 65536
+  pub scanned : Scanned log from total end
+  pub holds : after ≡ stored mem start (bytesFrom log from (end - from))
+
 -- a block of data stored from the pointer on, and the place of the first pair behind it
 pub record Blocked (mem : List ℕ) (start : ℕ) (log : List ℕ) (from total : ℕ) (after : List ℕ) (end : ℕ) : Type 0 where
   pub low : start < 65536

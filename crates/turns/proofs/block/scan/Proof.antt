@@ -7,10 +7,10 @@ use Rattle.turns.proofs.block.scan.Statement.{statement}
 use Rattle.turns.proofs.block.scan.Tie as tie
 
 abbrev Inv-loop : tie.InvT-loop
-Inv-loop log from total i₀ i = Scanning log from total i
+Inv-loop log from total end₀ end = Scanning log from total end
 
 abbrev μ-loop : tie.MeasureT-loop
-μ-loop log from total i₀ i = total - i
+μ-loop log from total end₀ end = total - end
 
 scan-sixteens-requires : tie.Need-scan-sixteens-requires Inv-loop μ-loop
 scan-sixteens-requires c κs = c .before .pre
@@ -27,8 +27,8 @@ shared-slice-read-if1 c = omega (arith, c .before .loop-test .taken, c .before .
 returns : tie.Need-returns Inv-loop μ-loop
 returns c = record { seen = c .before .before .before .loop .inv; stops = λ h. c .if1 .taken }
 
-add-i : tie.Need-add-i Inv-loop μ-loop
-add-i c = omega (arith, c .before .before .loop-test .taken)
+add-end : tie.Need-add-end Inv-loop μ-loop
+add-end c = omega (arith, c .before .before .loop-test .taken)
 
 loop-less : tie.Need-loop-less Inv-loop μ-loop
 loop-less c = omega (arith, c .before .before .loop-test .taken)
@@ -50,7 +50,7 @@ scan-spec =
     mul-if1
     shared-slice-read-if1
     returns
-    add-i
+    add-end
     loop-less
     loop-again
     returns-2)

@@ -26,8 +26,8 @@ sub-lesser c = omega (arith, c .before .loop .inv .low)
 lesser-requires : tie.Need-lesser-requires Inv-loop μ-loop
 lesser-requires c κs = search needs
 
-lay-requires : tie.Need-lay-requires Inv-loop μ-loop
-lay-requires c κs =
+store-stretch-requires : tie.Need-store-stretch-requires Inv-loop μ-loop
+store-stretch-requires c κs =
     let p = c .before .before .before .before .before .before .before .pre in
     let k = c .before .before .before .loop .inv in
     let e = c .before .lesser .ensures in
@@ -50,7 +50,7 @@ loop-less c =
 loop-again : tie.Need-loop-again Inv-loop μ-loop
 loop-again c =
     let k = c .before .before .before .before .before .before .loop .inv in
-    block-on k (c .before .before .before .before .before .loop-test .taken) (c .before .before .before .before .lesser .ensures) (c .before .before .lay .ensures)
+    block-on k (c .before .before .before .before .before .loop-test .taken) (c .before .before .before .before .lesser .ensures) (c .before .before .store-stretch .ensures)
 
 same-length : tie.Need-same-length Inv-loop μ-loop
 same-length c = block-long (c .before .loop .inv)
@@ -69,7 +69,7 @@ store-data-spec =
     loop-holds
     sub-lesser
     lesser-requires
-    lay-requires
+    store-stretch-requires
     add-i
     sub-left-2
     loop-less

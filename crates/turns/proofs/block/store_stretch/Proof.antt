@@ -1,9 +1,9 @@
--- `lay` meets its contract: byte after byte.
+-- `store_stretch` meets its contract: byte after byte.
 use Prim.Native.Nat.{_-_}
 use native.Mathlib.Omega.{arith}
 use Rattle.turns.proofs.Blocks.{Laying, lay-starts, lay-long, lay-on, lay-ends}
-use Rattle.turns.proofs.block.lay.Statement.{statement}
-use Rattle.turns.proofs.block.lay.Tie as tie
+use Rattle.turns.proofs.block.store_stretch.Statement.{statement}
+use Rattle.turns.proofs.block.store_stretch.Tie as tie
 
 abbrev Inv-loop : tie.InvT-loop
 Inv-loop mem₀ at log from n j₀ mem j = Laying mem₀ at log from n mem j
@@ -47,8 +47,8 @@ same-length c = lay-long (c .before .loop .inv)
 returns : tie.Need-returns Inv-loop μ-loop
 returns c = lay-ends (c .before .loop .inv) (c .loop-test .left)
 
-pub lay-spec : {M : Type 1} → statement M
-lay-spec =
+pub store-stretch-spec : {M : Type 1} → statement M
+store-stretch-spec =
     tie.close
     (tie.spec
     Inv-loop
