@@ -1,18 +1,15 @@
 -- What holds past the tests at the door, and what each of them answers.
-use mathlib.Core.Path.{_≡_, refl, ap, sym, _∙_}
+use mathlib.Core.Path.{_≡_, refl, ap, _∙_}
 use mathlib.Core.List.{List}
 use mathlib.Core.Bool.{Bool, true, false, cond, _&&_}
-use Prim.Native.Nat.{ℕ, _*_}
+use Prim.Native.Nat.{ℕ}
 use native.Mathlib.Omega.{arith}
 use lib.Dec.{eqb}
 use lib.ListN.{length}
 use borrow.Author.Tests.{eqb-true}
 use Rattle.ground.proofs.Tests.{both-left, both-right, settled}
-use Rattle.ground.specs.Packing.{rowBytes}
 use Rattle.display.specs.Types.{Panel, Display, Registers, Reply}
-use Rattle.state.specs.State.{validPanel, validDisplay, validBus, validRegisters}
-use Rattle.state.specs.Sizes.{rowSize, frameSize, validSize}
-use Rattle.state.proofs.Sizes.{is-size}
+use Rattle.state.specs.State.{validPanel, validDisplay, validRegisters}
 use Rattle.state.proofs.Valid.{panelled, displaying}
 use Rattle.display.specs.Frame.{frameOf, lentLengths, frameFits, replyOf, Painted, painted, paintOf}
 use Rattle.display.specs.Drawable.{Drawable}
@@ -51,58 +48,6 @@ pub painted-is : (p : Panel) (r : Registers) (mem rom frame : List ℕ) → (val
 unfolding paintOf
 painted-is p r mem rom frame v l =
     λ k. cond (v k) (cond (l k) (painted (replyOf 0) (frameOf p (r .display) mem rom)) (painted (replyOf 2) frame)) (painted (replyOf 1) frame)
-
--- a frame painted
-module _ (p : Panel) (r : Registers) (mem rom frame : List ℕ) {a b : Bool} (i : a ≡ validPanel p) (j : b ≡ validRegisters r) where
-  painting : (v : Bool) → (a && b) ≡ v
-      → cond v (cond (lentLengths mem rom && frameFits p frame) (painted (replyOf 0) (frameOf p (r .display) mem rom)) (painted (replyOf 2) frame)) (painted (replyOf 1) frame)
-      ≡ paintOf p r mem rom frame
-  unfolding paintOf
-  painting v e =
-      sym
-      (ap (λ (t : Bool). cond t (cond (lentLengths mem rom && frameFits p frame) (painted (replyOf 0) (frameOf p (r .display) mem rom)) (painted (replyOf 2) frame)) (painted (replyOf 1) frame))
-      (sym (λ k. i k && j k) ∙ e))
-
-  painting-1 : (a && b) ≡ false → painted (replyOf 1) frame ≡ paintOf p r mem rom frame
-  painting-1 e = painting false e
-
-  module _ (e : (a && b) ≡ true) {S : ℕ} (m : S ≡ validSize p (frameSize p)) where
-    panel-valid : validPanel p ≡ true
-    panel-valid = sym i ∙ both-left a b e
-
-    pub row-is : {R : ℕ} → R ≡ validSize p (rowSize p) → R ≡ rowBytes (p .columns) (p .width)
-    row-is k = is-size p panel-valid k
-
-    fits-is : (v : Bool) → (lentLengths mem rom && eqb (length frame) S) ≡ v → (lentLengths mem rom && frameFits p frame) ≡ v
-    fits-is v h = sym (λ q. lentLengths mem rom && eqb (length frame) (is-size p panel-valid m q)) ∙ h
-
-    painting-2 : (lentLengths mem rom && eqb (length frame) S) ≡ false → painted (replyOf 2) frame ≡ paintOf p r mem rom frame
-    painting-2 h =
-        sym (ap (λ (t : Bool). cond t (painted (replyOf 0) (frameOf p (r .display) mem rom)) (painted (replyOf 2) frame)) (fits-is false h))
-        ∙ painting true e
-
-    module _ (h : (lentLengths mem rom && eqb (length frame) S) ≡ true) where
-      pub painting-0 : {f : List ℕ} {n : ℕ} → n ≡ 0 → f ≡ frameOf p (r .display) mem rom → painted (replyOf n) f ≡ paintOf p r mem rom frame
-      painting-0 z n =
-          (λ k. painted (replyOf (z k)) (n k))
-          ∙ sym (ap (λ (t : Bool). cond t (painted (replyOf 0) (frameOf p (r .display) mem rom)) (painted (replyOf 2) frame)) (fits-is true h))
-          ∙ painting true e
-
-      pub painting-drawable : Drawable p (r .display) mem rom
-      painting-drawable =
-          drawable p (r .display) mem rom panel-valid
-          (both-left _ (validBus (r .bus)) (sym j ∙ both-right a b e))
-          (both-left _ (eqb (length frame) S) h)
-
-      pub painting-length : {R : ℕ} → R ≡ validSize p (rowSize p) → length frame ≡ 8 * p .lines * R
-      painting-length k =
-          eqb-true (length frame) S (both-right (lentLengths mem rom) _ h) ∙ is-size p panel-valid m ∙ ap (λ (n : ℕ). 8 * p .lines * n) (sym (row-is k))
-
-  -- turned away at the door
-  pub painting-no : {S n : ℕ} → S ≡ validSize p (frameSize p)
-      → n ≡ cond (a && b) (cond (lentLengths mem rom && eqb (length frame) S) 0 2) 1 → (n ≡ 0 → ⊥) → painted (replyOf n) frame ≡ paintOf p r mem rom frame
-  painting-no {S} m e z =
-      turned-away (a && b) (lentLengths mem rom && eqb (length frame) S) (λ k. painted (replyOf k) frame) e z painting-1 (λ v f. painting-2 v m f)
 
 -- two replies that meet a promise are equal
 pub paint-settled : {x y : Reply} {f g : List ℕ} (p : Panel) (r : Registers) (mem rom frame : List ℕ)

@@ -2,7 +2,7 @@
 use mathlib.Core.Path.{_≡_, refl, ap, sym, _∙_}
 use mathlib.Core.Bool.{Bool, true, false, cond, _&&_}
 use mathlib.Core.List.{List, _++_, append-assoc}
-use Prim.Native.Nat.{ℕ, suc, _+_, _-_, _*_, _/_, _%_, _<_, _≤_}
+use Prim.Native.Nat.{ℕ, suc, _+_, _-_, _*_, _/_, _%_, _<_, _≤_, min}
 use native.Mathlib.Nat.{mul-le-mul-right, suc-mul}
 use native.Mathlib.Numerals.{add-one}
 use native.Mathlib.Decide.{ℕ-discrete}
@@ -19,12 +19,13 @@ use Rattle.ground.proofs.Tests.{both, both-left, both-right}
 use Rattle.state.specs.State.{validPanel, validDisplay, validBus, validRegisters}
 use Rattle.state.specs.Sizes.{rowSize, frameSize, validSize}
 use Rattle.state.proofs.Sizes.{is-size}
+use Rattle.state.proofs.Valid.{panelled}
 use Rattle.display.specs.Types.{Panel, Display, Registers}
-use Rattle.display.specs.Frame.{rowOf, lentLengths, frameFits, replyOf, Painted, painted}
+use Rattle.display.specs.Frame.{rowOf, frameOf, lentLengths, frameFits, replyOf, Painted, painted, paintOf}
 use Rattle.display.specs.Drawable.{Drawable}
 use Rattle.display.specs.Flagged.{flagsFit, refreshedRow, paintFlaggedOf, someRow}
 use Rattle.display.proofs.Doors.{drawable, turned-away}
-use Rattle.display.proofs.Dots.{row-sized}
+use Rattle.display.proofs.Dots.{row-sized, all-rows}
 
 module _ (p : Panel) (d : Display) (mem rom : List ℕ) (first R : ℕ) (flags out₀ : List ℕ) where
   -- a row that has a flag; behind the last any row of that length
@@ -175,3 +176,35 @@ module _ (p : Panel) (r : Registers) (mem rom flags frame : List ℕ) {a b : Boo
       turned-away (a && b) (asked S) (λ k. painted (replyOf k) frame) e z
       (λ v. opens false (lentLengths mem rom && frameFits p frame && flagsFit p flags) v refl)
       (λ v f. opens true false v (fit-is v m false f))
+
+-- every row flagged
+module _ (p : Panel) (r : Registers) (mem rom frame : List ℕ) (n : ℕ) (few : n ≡ min (p .lines) 32) where
+  abbrev all : List ℕ
+  all = take (8 * n) (ones 256)
+
+  pub painted-all : paintFlaggedOf p r mem rom all frame ≡ paintOf p r mem rom frame
+  unfolding paintFlaggedOf paintOf
+  painted-all = go (validPanel p && validRegisters r) refl
+    where
+      ends : Bool → Bool → List ℕ → Painted
+      ends v f l = cond v (cond f (painted (replyOf 0) l) (painted (replyOf 2) frame)) (painted (replyOf 1) frame)
+
+      beside : (f : Bool) → (f && true) ≡ f
+      beside true = refl
+      beside false = refl
+
+      go : (v : Bool) → (validPanel p && validRegisters r) ≡ v
+          → ends v (lentLengths mem rom && frameFits p frame && flagsFit p all) (joined (8 * p .lines) (refreshedRow p (r .display) mem rom frame all))
+          ≡ ends v (lentLengths mem rom && frameFits p frame) (frameOf p (r .display) mem rom)
+      go false e = refl
+      go true e =
+          let same : n ≡ p .lines = let h = panelled p (both-left (validPanel p) (validRegisters r) e) in omega (arith, few, h .lines) in
+          let most : 8 * n ≤ 256 = omega (arith, few) in
+          let many : length all ≡ 8 * p .lines = ones-many 256 (8 * n) most ∙ ap (λ (m : ℕ). 8 * m) same in
+          (λ i.
+          ends true ((ap (λ (t : Bool). lentLengths mem rom && frameFits p frame && t) (eq-eqb (length all) (8 * p .lines) many) ∙ beside (lentLengths mem rom && frameFits p frame)) i)
+          (all-rows p (r .display) mem rom
+          (joined-cong (8 * p .lines) (refreshedRow p (r .display) mem rom frame all) (λ j. rowOf p (r .display) mem rom (0 + j))
+          (λ j l.
+          (λ q. cond (eqb (ones-lit 256 (8 * n) most j (omega (arith, l, many)) q) 0) (take (rowSize p) (drop (j * rowSize p) frame)) (rowOf p (r .display) mem rom j))
+          ∙ ap (rowOf p (r .display) mem rom) (let o : j ≡ 0 + j = omega arith in o))) i))

@@ -12,6 +12,7 @@ use super::door::refusal;
 use super::font::font;
 use super::layers::tables;
 use super::row::paint_row;
+use ground::bytes::lesser;
 use state::panel::Panel;
 use state::registers::Display;
 use state::registers::Registers;
@@ -59,31 +60,6 @@ fn paint_some(
     }
 }
 
-// The whole frame, or a refusal that leaves it as it was.
-pub fn paint(panel: Panel, registers: Registers, mem: &[u8], rom: &[u8], frame: &mut [u8]) -> Reply
-    ensures { λ r. ⌜ painted r (now (frame .exit)) ≡ paintOf panel registers (now (mem .entry)) (now (rom .entry)) (now (frame .entry)) ⌝ }
-{
-    let valid = panel.valid() & registers.valid();
-    let bytes = panel.row_size();
-    let size = panel.frame_size();
-    let number = refusal(valid, mem, rom, frame.len() == size);
-    if number == 0 {
-        let all = [1u8; 256];
-        let rows = 8 * panel.lines;
-        paint_some(
-            panel,
-            registers.display,
-            mem,
-            rom,
-            0,
-            &all[..rows],
-            bytes,
-            frame,
-        );
-    }
-    Reply { number, place: 0 }
-}
-
 // The frame's flagged rows, or a refusal that leaves it as it was.
 pub fn paint_flagged(
     panel: Panel,
@@ -104,6 +80,15 @@ pub fn paint_flagged(
         paint_some(panel, registers.display, mem, rom, 0, flags, bytes, frame);
     }
     Reply { number, place: 0 }
+}
+
+// The whole frame, or a refusal that leaves it as it was: every row is flagged. A panel has at most 32 lines, or it is refused.
+pub fn paint(panel: Panel, registers: Registers, mem: &[u8], rom: &[u8], frame: &mut [u8]) -> Reply
+    ensures { λ r. ⌜ painted r (now (frame .exit)) ≡ paintOf panel registers (now (mem .entry)) (now (rom .entry)) (now (frame .entry)) ⌝ }
+{
+    let all = [1u8; 256];
+    let rows = 8 * lesser(panel.lines, 32);
+    paint_flagged(panel, registers, mem, rom, &all[..rows], frame)
 }
 
 // One dot row, any, in a buffer of just its bytes, or a refusal that leaves it as it was.
