@@ -25,7 +25,7 @@ use state::panel::Panel;
 use state::registers::Display;
 
 // Bytes of memory from an address on, round, their low dots.
-fn fetch(width: usize, mem: &[u8], start: u16, out: &mut [u8])
+fn read_round(width: usize, mem: &[u8], start: u16, out: &mut [u8])
     requires { ⌜ length (now mem) ≡ 65536 ⌝ }
     ensures { λ _. ⌜ now (out .exit) ≡ build (length (now (out .entry))) (λ j. getD (now (mem .entry)) ((start + j) % 65536) 0 % 2 ^ width) ⌝ }
 {
@@ -52,7 +52,7 @@ fn lay_glyphs(
     ensures { λ _. ⌜ now (cells .exit) ≡ build (length (now (cells .entry))) (λ j. glyphDots panel display (now (mem .entry)) (now (rom .entry)) row (column + j)) ⌝ }
 {
     let at = address(display.text, row / 8, column);
-    fetch(8, mem, at, cells);
+    read_round(8, mem, at, cells);
     look_up(panel.width, font, row % 8, cells);
 }
 
@@ -155,7 +155,7 @@ fn give_graphic(
 {
     if has_dots(display) {
         let at = address(display.graphic, row, column);
-        fetch(panel.width, mem, at, graphic);
+        read_round(panel.width, mem, at, graphic);
         return;
     }
     clear(graphic);

@@ -10,14 +10,14 @@ has-dots-requires c κs = search needs
 address-requires : tie.Need-address-requires
 address-requires c κs = search needs
 
-fetch-requires : tie.Need-fetch-requires
-fetch-requires c κs = search needs
+read-round-requires : tie.Need-read-round-requires
+read-round-requires c κs = search needs
 
 same-length : tie.Need-same-length
 same-length c = search needs
 
 returns : tie.Need-returns
-returns c = let a = c .before .before .before .before .before .before .before .before .before .args in lit-graphic (a .panel) (a .display) (a .mem .now) (a .row) (a .column) _ (c .before .before .before .before .before .before .has-dots .ensures) (c .before .before .before .before .before .if1 .taken) (c .before .before .before .before .address .ensures) (c .before .before .fetch .ensures)
+returns c = let a = c .before .before .before .before .before .before .before .before .before .args in lit-graphic (a .panel) (a .display) (a .mem .now) (a .row) (a .column) _ (c .before .before .before .before .before .before .has-dots .ensures) (c .before .before .before .before .before .if1 .taken) (c .before .before .before .before .address .ensures) (c .before .before .read-round .ensures)
 
 clear-requires : tie.Need-clear-requires
 clear-requires c κs = search needs
@@ -34,7 +34,7 @@ give-graphic-spec =
     (tie.spec
     has-dots-requires
     address-requires
-    fetch-requires
+    read-round-requires
     same-length
     returns
     clear-requires

@@ -10,8 +10,8 @@ use Rattle.display.proofs.layers.lay_glyphs.Tie as tie
 address-requires : tie.Need-address-requires
 address-requires c κs = search needs
 
-fetch-requires : tie.Need-fetch-requires
-fetch-requires c κs = search needs
+read-round-requires : tie.Need-read-round-requires
+read-round-requires c κs = search needs
 
 look-up-requires : tie.Need-look-up-requires
 look-up-requires c κs =
@@ -25,7 +25,7 @@ returns : tie.Need-returns
 returns c =
     let s = c .before .before .before .before .before .before .before .before .before .before .before .before .before in
     let a = s .args in
-    c .before .before .look-up .ensures ∙ looked-up (a .panel) (a .display) (a .mem .now) (a .rom .now) (a .row) (a .column) (length (a .cells .now)) (c .before .before .before .before .before .before .before .before .address .ensures) (s .pre .1) (λ i. c .before .before .before .before .before .before .before .before .before .before .before .before .shared-slice-known .given i .fits) (c .before .before .before .before .before .before .fetch .ensures)
+    c .before .before .look-up .ensures ∙ looked-up (a .panel) (a .display) (a .mem .now) (a .rom .now) (a .row) (a .column) (length (a .cells .now)) (c .before .before .before .before .before .before .before .before .address .ensures) (s .pre .1) (λ i. c .before .before .before .before .before .before .before .before .before .before .before .before .shared-slice-known .given i .fits) (c .before .before .before .before .before .before .read-round .ensures)
 
 pub lay-glyphs-spec : {M : Type 1} → statement M
-lay-glyphs-spec = tie.close (tie.spec address-requires fetch-requires look-up-requires same-length returns)
+lay-glyphs-spec = tie.close (tie.spec address-requires read-round-requires look-up-requires same-length returns)

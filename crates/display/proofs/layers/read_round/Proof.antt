@@ -1,4 +1,4 @@
--- `fetch` meets its contract: byte by byte, the address going on.
+-- `read_round` meets its contract: byte by byte, the address going on.
 use mathlib.Core.Path.{refl, ap, _∙_}
 use Prim.Native.Nat.{ℕ, _-_, _%_, _^_}
 use native.Mathlib.Omega.{arith}
@@ -6,8 +6,8 @@ use lib.ListN.{getD}
 use Rattle.ground.proofs.Filling.{as-long, at-end}
 use Rattle.display.proofs.Passes.{Going, goes-from, goes-on, roundByte}
 use borrow.Author.Needs.{needs}
-use Rattle.display.proofs.layers.fetch.Statement.{statement}
-use Rattle.display.proofs.layers.fetch.Tie as tie
+use Rattle.display.proofs.layers.read_round.Statement.{statement}
+use Rattle.display.proofs.layers.read_round.Tie as tie
 
 abbrev Inv-loop : tie.InvT-loop
 Inv-loop width mem start out₀ at₀ j₀ j-end out at j = Going (roundByte width mem start) start out₀ out at j
@@ -48,8 +48,8 @@ same-length c = as-long _ _ (c .before .loop .inv .filled)
 returns : tie.Need-returns Inv-loop μ-loop
 returns c = at-end _ _ (c .before .loop .inv .filled) _ refl (c .loop-test .left)
 
-pub fetch-spec : {M : Type 1} → statement M
-fetch-spec =
+pub read-round-spec : {M : Type 1} → statement M
+read-round-spec =
     tie.close
     (tie.spec
     Inv-loop
