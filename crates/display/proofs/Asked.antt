@@ -14,7 +14,7 @@ use Rattle.display.specs.Types.{Panel, Display, Reply}
 use Rattle.display.specs.Frame.{lentLengths, replyOf}
 use Rattle.display.specs.Drawable.{Drawable}
 use Rattle.display.specs.Layers.{layersAt, stretch, layersFrom, alike, rowLayersOf}
-use Rattle.display.proofs.Doors.{drawable, turned-away}
+use Rattle.display.proofs.Doors.{drawable, rom-long, turned-away}
 
 module _ (p : Panel) (d : Display) (mem rom : List ℕ) (r c : ℕ) (text graphic shown : List ℕ) {a b : Bool} (i : a ≡ validPanel p) (j : b ≡ validDisplay d) where
   asked : (v : Bool) → (a && b) ≡ v
@@ -59,9 +59,12 @@ module _ (p : Panel) (d : Display) (mem rom : List ℕ) (r c : ℕ) (text graphi
       pub asked-room : length text ≤ length shown
       asked-room = omega (arith, text-count)
 
-      pub asked-drawable : Drawable p d mem rom
+      pub asked-drawable : Drawable p d mem
       asked-drawable =
           drawable p d mem rom (sym i ∙ both-left a b e) (sym j ∙ both-right a b e) (both-left (lentLengths mem rom) (alike text graphic shown) l)
+
+      pub asked-rom : length rom ≡ 1024
+      asked-rom = rom-long mem rom (both-left (lentLengths mem rom) (alike text graphic shown) l)
 
       pub asked-0 : {t g s : List ℕ} {n : ℕ} → n ≡ 0 → t ≡ build (length text) (λ n. layersAt p d mem rom r (c + n) .text)
           → g ≡ build (length graphic) (λ n. layersAt p d mem rom r (c + n) .graphic)

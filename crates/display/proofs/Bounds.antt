@@ -13,7 +13,7 @@ use Rattle.display.specs.Displayed.{glyphDots, textDots, graphicDots, di
 use Rattle.display.specs.Drawable.{Drawable}
 use Rattle.display.specs.Layers.{layersAt}
 
-pub wide : {p : Panel} {d : Display} {mem rom : List ℕ} → Drawable p d mem rom → (6 ≤ p .width) × (p .width ≤ 8)
+pub wide : {p : Panel} {d : Display} {mem : List ℕ} → Drawable p d mem → (6 ≤ p .width) × (p .width ≤ 8)
 wide k = ⊎-elim (λ e. omega arith) (λ e. omega arith) (k .width)
 
 module _ (p : Panel) (d : Display) (mem rom : List ℕ) (r c : ℕ) where

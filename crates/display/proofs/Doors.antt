@@ -15,7 +15,7 @@ use Rattle.display.specs.Frame.{frameOf, lentLengths, frameFits, replyOf
 use Rattle.display.specs.Drawable.{Drawable}
 
 pub drawable : (p : Panel) (d : Display) (mem rom : List ℕ) → validPanel p ≡ true → validDisplay d ≡ true → lentLengths mem rom ≡ true
-    → Drawable p d mem rom
+    → Drawable p d mem
 drawable p d mem rom i j l =
     let q = panelled p i in
     let s = displaying d j in
@@ -26,8 +26,10 @@ drawable p d mem rom i j l =
       offset = s .offset;
       height = s .height;
       memory = eqb-true (length mem) 65536 (both-left _ (eqb (length rom) 1024) l);
-      characters = eqb-true (length rom) 1024 (both-right (eqb (length mem) 65536) _ l);
     }
+
+pub rom-long : (mem rom : List ℕ) → lentLengths mem rom ≡ true → length rom ≡ 1024
+rom-long mem rom l = eqb-true (length rom) 1024 (both-right (eqb (length mem) 65536) (eqb (length rom) 1024) l)
 
 -- the number at the door: past it both tests hold
 pub let-in : (v f : Bool) {n : ℕ} → n ≡ cond v (cond f 0 2) 1 → n ≡ 0 → (v ≡ true) × (f ≡ true)

@@ -20,11 +20,11 @@ use Rattle.state.specs.State.{validPanel, validDisplay, validBus, validRegister
 use Rattle.state.specs.Sizes.{rowSize, frameSize, validSize}
 use Rattle.state.proofs.Sizes.{is-size}
 use Rattle.state.proofs.Valid.{panelled}
-use Rattle.display.specs.Types.{Panel, Display, Registers}
+use Rattle.display.specs.Types.{Panel, Display, Registers, Reply}
 use Rattle.display.specs.Frame.{rowOf, frameOf, lentLengths, frameFits, replyOf, Painted, painted, paintOf}
 use Rattle.display.specs.Drawable.{Drawable}
 use Rattle.display.specs.Flagged.{flagsFit, refreshedRow, paintFlaggedOf, someRow}
-use Rattle.display.proofs.Doors.{drawable, turned-away}
+use Rattle.display.proofs.Doors.{drawable, rom-long, turned-away}
 use Rattle.display.proofs.Dots.{row-sized, all-rows}
 
 module _ (p : Panel) (d : Display) (mem rom : List ℕ) (first R : ℕ) (flags out₀ : List ℕ) where
@@ -147,9 +147,12 @@ module _ (p : Panel) (r : Registers) (mem rom flags frame : List ℕ) {a b : Boo
       flags-many : length flags ≡ 8 * p .lines
       flags-many = eqb-true (length flags) (8 * p .lines) (both-right (lentLengths mem rom && frameFits p frame) (flagsFit p flags) (fit-is true h))
 
-      pub flagged-drawable : Drawable p (r .display) mem rom
+      pub flagged-drawable : Drawable p (r .display) mem
       flagged-drawable =
           drawable p (r .display) mem rom valid (both-left (validDisplay (r .display)) (validBus (r .bus)) (sym j ∙ both-right a b e)) (both-left (lentLengths mem rom) (frameFits p frame) two)
+
+      pub flagged-rom : length rom ≡ 1024
+      flagged-rom = rom-long mem rom (both-left (lentLengths mem rom) (frameFits p frame) two)
 
       pub flagged-few : length flags ≤ 256
       flagged-few = omega (arith, flags-many, flagged-drawable .lines)
@@ -182,9 +185,9 @@ module _ (p : Panel) (r : Registers) (mem rom frame : List ℕ) (n : ℕ) (few :
   abbrev all : List ℕ
   all = take (8 * n) (ones 256)
 
-  pub painted-all : paintFlaggedOf p r mem rom all frame ≡ paintOf p r mem rom frame
+  pub painted-all : {x : Reply} {f : List ℕ} → painted x f ≡ paintFlaggedOf p r mem rom all frame → painted x f ≡ paintOf p r mem rom frame
   unfolding paintFlaggedOf paintOf
-  painted-all = go (validPanel p && validRegisters r) refl
+  painted-all h = h ∙ go (validPanel p && validRegisters r) refl
     where
       ends : Bool → Bool → List ℕ → Painted
       ends v f l = cond v (cond f (painted (replyOf 0) l) (painted (replyOf 2) frame)) (painted (replyOf 1) frame)

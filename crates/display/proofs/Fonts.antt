@@ -1,5 +1,5 @@
 -- The glyphs of all codes side by side: from memory, or below 80H from the ROM; and the codes of a row looked up in them.
-use mathlib.Core.Path.{_≡_, ap, sym, _∙_}
+use mathlib.Core.Path.{_≡_, refl, ap, sym, _∙_}
 use mathlib.Core.List.{List, _++_}
 use mathlib.Core.Bool.{Bool, true, false, cond, not, _&&_}
 use Prim.Native.Nat.{ℕ, _+_, _-_, _*_, _/_, _%_, _^_, _<_}
@@ -8,12 +8,16 @@ use native.Mathlib.Omega.{arith}
 use lib.Dec.{ltb}
 use lib.ListN.{length, getD, take, drop, length-append, length-drop, List·getD-append}
 use lib.Seq.{getD-append-add, getD-take, getD-drop, ext-getD, length-take-le}
-use borrow.Author.Tests.{lt-ltb, le-ltb}
+use borrow.Author.Tests.{ltb-true, lt-ltb, le-ltb}
 use Rattle.ground.specs.Lists.{build}
 use Rattle.ground.proofs.Lists.{build-length, build-at, build-cong}
 use Rattle.display.specs.Types.{Panel, Display}
-use Rattle.display.specs.Displayed.{addressOf, textCode, glyphRow, glyphDots}
-use Rattle.display.specs.Shaded.{fontOf}
+use Rattle.ground.specs.Packing.{rowFrom}
+use Rattle.state.specs.Attribute.{attributed}
+use Rattle.state.specs.Combination.{isAttribute}
+use Rattle.display.specs.Displayed.{addressOf, textCode, glyphRow, attributeByte, textLayer, mixed, glyphDots, textDots, graphicDots, displayedByte, cursorLit, cursorCovers, cellByte}
+use Rattle.display.specs.Frame.{rowOf}
+use Rattle.display.specs.Shaded.{fontOf, IsFont}
 use Rattle.display.proofs.Passes.{roundByte, glyphIn}
 
 -- a byte of a stretch of memory
@@ -32,6 +36,26 @@ module _ (d : Display) (mem rom : List ℕ) where
       let e : (8 * code + v) / 8 ≡ code = omega arith in
       let f : (8 * code + v) % 8 ≡ v = omega arith in
       build-at 2048 (λ i. glyphRow d mem rom (i / 8) (i % 8)) (8 * code + v) 0 (omega arith) ∙ (λ i. glyphRow d mem rom (e i) (f i))
+
+  -- of the font as of the ROM that it is made of
+  glyph-same : (code v : ℕ) → v < 8 → glyphRow d mem (fontOf d mem rom) code v ≡ glyphRow d mem rom code v
+  unfolding glyphRow
+  glyph-same code v l = go (d .external) (ltb code 0x80) refl refl
+    where
+      go : (x t : Bool) → d .external ≡ x → ltb code 0x80 ≡ t
+          → cond (not x && t) (getD (fontOf d mem rom) (8 * code + v) 0) (getD mem (2048 * d .offset + 8 * code + v) 0) ≡ cond (not x && t) (getD rom (8 * code + v) 0) (getD mem (2048 * d .offset + 8 * code + v) 0)
+      go true t f h = refl
+      go false false f h = refl
+      go false true f h =
+          font-at code v (let k = ltb-true code 0x80 h in omega arith) l
+          ∙ (λ i. cond (not (f i) && h i) (getD rom (8 * code + v) 0) (getD mem (2048 * d .offset + 8 * code + v) 0))
+
+  own-font : IsFont d mem (fontOf d mem rom)
+  unfolding fontOf
+  own-font = build-cong 2048 (λ i. glyphRow d mem rom (i / 8) (i % 8)) (λ i. glyphRow d mem (fontOf d mem rom) (i / 8) (i % 8)) (λ i h. sym (glyph-same (i / 8) (i % 8) (omega arith)))
+
+  pub is-font : {font : List ℕ} → font ≡ fontOf d mem rom → IsFont d mem font
+  is-font e = e ∙ own-font ∙ ap (fontOf d mem) (sym e)
 
   by-place : (i : ℕ) → 8 * (i / 8) + i % 8 ≡ i
   by-place i = omega arith
@@ -98,16 +122,50 @@ module _ (d : Display) (mem rom : List ℕ) where
 -- the codes of a line, looked up
 module _ (p : Panel) (d : Display) (mem rom : List ℕ) (r first : ℕ) where
   pub looked-up : {start : ℕ} {font codes : List ℕ} (n : ℕ) → start ≡ addressOf (d .text) (r / 8) first → font ≡ fontOf d mem rom → ((i : ℕ) → getD mem i 0 < 256)
-      → codes ≡ build n (roundByte 8 mem start)
-      → build (length codes) (glyphIn (p .width) font (r % 8) codes) ≡ build n (λ j. glyphDots p d mem rom r (first + j))
+      → codes ≡ build n (roundByte 8 mem start) → {l : List ℕ} → l ≡ build (length codes) (glyphIn (p .width) font (r % 8) codes)
+      → l ≡ build n (λ j. glyphDots p d mem rom r (first + j))
   unfolding glyphDots textCode
-  looked-up {start} {font} {codes} n s f bytes k =
-      ap (λ (m : ℕ). build m (glyphIn (p .width) font (r % 8) codes)) (ap length k ∙ build-length n (roundByte 8 mem start))
+  looked-up {start} {font} {codes} n s f bytes k h =
+      h ∙ ap (λ (m : ℕ). build m (glyphIn (p .width) font (r % 8) codes)) (ap length k ∙ build-length n (roundByte 8 mem start))
       ∙ build-cong n _ _
-      (λ j h.
+      (λ j m.
       let at : (start + j) % 65536 ≡ addressOf (d .text) (r / 8) (first + j) = omega (arith, s) in
       let small = bytes (addressOf (d .text) (r / 8) (first + j)) in
       let code : getD codes j 0 ≡ getD mem (addressOf (d .text) (r / 8) (first + j)) 0 =
-      ap (λ (x : List ℕ). getD x j 0) k ∙ build-at n (roundByte 8 mem start) j 0 h ∙ ap (λ (m : ℕ). getD mem m 0 % 2 ^ 8) at ∙ (omega (arith, small)) in
+      ap (λ (x : List ℕ). getD x j 0) k ∙ build-at n (roundByte 8 mem start) j 0 m ∙ ap (λ (m : ℕ). getD mem m 0 % 2 ^ 8) at ∙ (omega (arith, small)) in
       (λ q. getD (f q) (8 * code q + r % 8) 0 % 2 ^ p .width)
       ∙ ap (λ (x : ℕ). x % 2 ^ p .width) (font-at d mem rom (getD mem (addressOf (d .text) (r / 8) (first + j)) 0) (r % 8) small (omega arith)))
+
+-- what is shown by the font is what is shown by the ROM
+module _ (p : Panel) (d : Display) (mem rom : List ℕ) (r : ℕ) {font : List ℕ} (e : font ≡ fontOf d mem rom) where
+  dots-same : (c : ℕ) → glyphDots p d mem font r c ≡ glyphDots p d mem rom r c
+  unfolding glyphDots
+  dots-same c =
+      ap (λ (f : List ℕ). glyphRow d mem f (textCode d mem (r / 8) c) (r % 8) % 2 ^ p .width) e
+      ∙ ap (λ (x : ℕ). x % 2 ^ p .width) (glyph-same d mem rom (textCode d mem (r / 8) c) (r % 8) (omega arith))
+
+  text-same : (c : ℕ) → textDots p d mem font r c ≡ textDots p d mem rom r c
+  unfolding textDots
+  text-same c =
+      λ i.
+      textLayer (d .bits .text) (d .bits .graphic) (isAttribute (d .combination))
+      (attributed (p .width) (d .phase) (attributeByte d mem (r / 8) c) (dots-same c i))
+      (dots-same c i)
+
+  shown-same : (c : ℕ) → displayedByte p d mem font r c ≡ displayedByte p d mem rom r c
+  unfolding displayedByte
+  shown-same c = λ i. mixed (d .bits .text) (d .bits .graphic) (d .combination) (text-same c i) (graphicDots p d mem r c)
+
+  pub text-by-font : (first n : ℕ) {l : List ℕ} → l ≡ build n (λ j. textDots p d mem font r (first + j)) → l ≡ build n (λ j. textDots p d mem rom r (first + j))
+  text-by-font first n h = h ∙ (λ i. build n (λ j. text-same (first + j) i))
+
+  pub shown-by-font : (first n : ℕ) {l : List ℕ} → l ≡ build n (λ j. displayedByte p d mem font r (first + j)) → l ≡ build n (λ j. displayedByte p d mem rom r (first + j))
+  shown-by-font first n h = h ∙ (λ i. build n (λ j. shown-same (first + j) i))
+
+  pub row-by-font : {l : List ℕ} → l ≡ rowOf p d mem font r → l ≡ rowOf p d mem rom r
+  unfolding rowOf cellByte
+  row-by-font h =
+      h
+      ∙ (λ i.
+      rowFrom (p .columns) (p .width)
+      (λ c. cond (cursorLit (d .bits .cursor) (d .bits .blink) (d .phase) && cursorCovers p (d .cursor) (r / 8) (r % 8) c) (2 ^ p .width - 1) (shown-same c i)))

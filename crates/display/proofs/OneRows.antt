@@ -20,7 +20,7 @@ use Rattle.display.specs.Displayed.{cellByte}
 use Rattle.display.specs.Frame.{dotOf, rowOf, lentLengths, replyOf, Painted, painted}
 use Rattle.display.specs.OneRow.{rowFits, paintOneOf}
 use Rattle.display.specs.Drawable.{Drawable}
-use Rattle.display.proofs.Doors.{drawable, turned-away}
+use Rattle.display.proofs.Doors.{drawable, rom-long, turned-away}
 
 module _ (p : Panel) (d : Display) (mem rom : List ℕ) (r : ℕ) where
   pub row-length : length (rowOf p d mem rom r) ≡ rowSize p
@@ -74,8 +74,11 @@ module _ (p : Panel) (d : Display) (mem rom : List ℕ) (r : ℕ) where
           pub one-0 : {l : List ℕ} {n : ℕ} → n ≡ 0 → l ≡ rowOf p d mem rom r → painted (replyOf n) l ≡ paintOneOf p d mem rom r out
           one-0 z k = (λ q. painted (replyOf (z q)) (k q)) ∙ ones true true (tests e) (fits-are true h)
 
-          pub one-drawable : Drawable p d mem rom
+          pub one-drawable : Drawable p d mem
           one-drawable = drawable p d mem rom is-valid (sym j ∙ both-right a b e) (both-left (lentLengths mem rom) (eqb (length out) R) h)
+
+          pub one-rom : length rom ≡ 1024
+          one-rom = rom-long mem rom (both-left (lentLengths mem rom) (eqb (length out) R) h)
 
           pub one-stretch : length out ≡ 1 * R
           one-stretch = omega (arith, eqb-true (length out) R (both-right (lentLengths mem rom) (eqb (length out) R) h))

@@ -22,7 +22,7 @@ use Rattle.ground.proofs.Tests.{both-right}
 use Rattle.display.specs.Types.{Panel, Display, Combination, Or, Exor, And, Attribute, Manner, Normal, Reverse, Inhibit}
 use Rattle.display.proofs.Bounds.{glyph-lt}
 use Rattle.display.proofs.Cases.{graphic-on, graphic-off, text-off, text-plain, text-attributed, shown, cell-shown, cell-cursor}
-use Rattle.display.specs.Drawable.{GraphicOver}
+use Rattle.display.specs.Drawable.{Dotted, GraphicOver}
 use Rattle.state.specs.Halves.{cursorY}
 use Rattle.display.specs.Displayed.{addressOf, attributeByte, mixed, glyphDots, textDots, graphicDots, displayedByte, cursorLit, cursorCovers, cellByte}
 use Rattle.state.specs.Attribute.{lookOf, shownAs, attributed, shadesOf}
@@ -174,29 +174,34 @@ module _ (w n : ℕ) (h : n < 2 ^ w) where
       two-ways (lookOf (a % 16 % 16) .blinks && not normal) (lookOf (a % 16 % 16) .shown)
       ∙ ap (λ (m : ℕ). cond (lookOf m .blinks && not normal) 0 (shownAs (lookOf m .shown) w n)) e
 
-module _ (p : Panel) (d : Display) (mem rom : List ℕ) (r first : ℕ) (shades : List ℕ) {cells : List ℕ} {all start : ℕ}
+-- glyph rows have no dot above their w
+pub glyphs-dotted : (p : Panel) (d : Display) (mem rom : List ℕ) (r first n : ℕ) {l : List ℕ} → l ≡ build n (λ j. glyphDots p d mem rom r (first + j)) → Dotted (p .width) l
+glyphs-dotted p d mem rom r first n {l} e j h =
+    let long : length l ≡ n = ap length e ∙ build-length n (λ j. glyphDots p d mem rom r (first + j)) in
+    let here : getD l j 0 ≡ glyphDots p d mem rom r (first + j) = ap (λ (x : List ℕ). getD x j 0) e ∙ build-at n (λ j. glyphDots p d mem rom r (first + j)) j 0 (omega (arith, h, long)) in
+    rw here (glyph-lt p d mem rom r (first + j))
+
+module _ (p : Panel) (d : Display) (mem : List ℕ) (r first : ℕ) (shades cells : List ℕ) {all start : ℕ}
     (i : shades ≡ shadesOf (p .width) (d .phase)) (e : all ≡ 2 ^ p .width - 1)
-    (s : start ≡ addressOf (d .graphic) (r / 8) first) (k : cells ≡ build (length cells) (λ j. glyphDots p d mem rom r (first + j))) where
+    (s : start ≡ addressOf (d .graphic) (r / 8) first) (k : Dotted (p .width) cells) where
   -- dots that are not more than all
   pub within : {n : ℕ} → n < length cells → getD cells n 0 ≤ all
-  within {n} h = rw (of-rule (λ j. glyphDots p d mem rom r (first + j)) k h, e) (omega (arith, glyph-lt p d mem rom r (first + n)))
+  within {n} h = rw e (omega (arith, k n h))
 
   shaded-right : (n : ℕ) → n < length cells
-      → shadedAt shades all mem start cells n ≡ attributed (p .width) (d .phase) (attributeByte d mem (r / 8) (first + n)) (glyphDots p d mem rom r (first + n))
+      → shadedAt shades all mem start cells n ≡ attributed (p .width) (d .phase) (attributeByte d mem (r / 8) (first + n)) (getD cells n 0)
   unfolding attributeByte
   shaded-right n h =
-      let c = first + n in
-      let a = attributeByte d mem (r / 8) c in
+      let a = attributeByte d mem (r / 8) (first + n) in
       let w = p .width in
       let at : getD mem ((start + n) % 65536) 0 ≡ a = ap (λ (m : ℕ). getD mem m 0) (omega (arith, s)) in
       let code : a % 16 < 16 = omega arith in
-      (λ q. shaded shades all (at q % 16) (of-rule (λ j. glyphDots p d mem rom r (first + j)) k h q))
-      ∙ (λ q. bitOr (bitAnd (glyphDots p d mem rom r c) (all-set w (d .phase) i (a % 16) code q))
-      (bitAnd (e q - glyphDots p d mem rom r c) (all-reset w (d .phase) i (a % 16) code q)))
-      ∙ two-rows w (glyphDots p d mem rom r c) (glyph-lt p d mem rom r c) (d .phase) a
+      (λ q. shaded shades all (at q % 16) (getD cells n 0))
+      ∙ (λ q. bitOr (bitAnd (getD cells n 0) (all-set w (d .phase) i (a % 16) code q)) (bitAnd (e q - getD cells n 0) (all-reset w (d .phase) i (a % 16) code q)))
+      ∙ two-rows w (getD cells n 0) (k n h) (d .phase) a
 
   pub all-shaded : (l : List ℕ) → l ≡ build (length cells) (shadedAt shades all mem start cells)
-      → l ≡ build (length cells) (λ n. attributed (p .width) (d .phase) (attributeByte d mem (r / 8) (first + n)) (glyphDots p d mem rom r (first + n)))
+      → l ≡ build (length cells) (λ n. attributed (p .width) (d .phase) (attributeByte d mem (r / 8) (first + n)) (getD cells n 0))
   all-shaded l h = h ∙ build-cong (length cells) _ _ shaded-right
 
 -- one layer after the other, each as long as the last
@@ -217,11 +222,12 @@ module _ (p : Panel) (d : Display) (mem rom : List ℕ) (r first : ℕ) where
 
   pub shown-text : (xs ys : List ℕ) {b : Bool} {zs : List ℕ} → not (d .bits .text) ≡ false → b ≡ isAttribute (d .combination)
       → (b && d .bits .graphic) ≡ true → ys ≡ build (length xs) (λ j. glyphDots p d mem rom r (first + j))
-      → zs ≡ build (length ys) (λ j. attributed (p .width) (d .phase) (attributeByte d mem (r / 8) (first + j)) (glyphDots p d mem rom r (first + j)))
+      → zs ≡ build (length ys) (λ j. attributed (p .width) (d .phase) (attributeByte d mem (r / 8) (first + j)) (getD ys j 0))
       → zs ≡ build (length xs) (λ j. textDots p d mem rom r (first + j))
   shown-text xs ys e i f g h =
       same-count (λ j. glyphDots p d mem rom r (first + j)) _ xs ys refl g h
-      ∙ build-cong (length xs) _ _ (λ j k. text-attributed p d mem rom r (first + j) e i f refl refl refl)
+      ∙ build-cong (length xs) _ _
+      (λ j k. text-attributed p d mem rom r (first + j) e i f refl (ap (λ (l : List ℕ). getD l j 0) g ∙ build-at (length xs) (λ j. glyphDots p d mem rom r (first + j)) j 0 k) refl)
 
 -- the text given out: the front of the cells
 pub front-of : (f : ℕ → ℕ) (n : ℕ) (xs text : List ℕ) {t : List ℕ} → xs ≡ build n f → length text ≤ n

@@ -16,3 +16,7 @@ pub record Shaded (p : Panel) (d : Display) (shades : List ℕ) : Type 0 where
 -- the glyph rows of all 256 codes, eight of each
 unfoldable pub fontOf : Display → List ℕ → List ℕ → List ℕ
 fontOf d mem rom = build 2048 (λ i. glyphRow d mem rom (i / 8) (i % 8))
+
+-- a list of them: it is the same made of itself for the ROM, so that whatever is read of it may be said of it as of a ROM
+abbrev pub IsFont : Display → List ℕ → List ℕ → Type 0
+IsFont d mem font = font ≡ fontOf d mem font

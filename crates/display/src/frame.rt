@@ -29,7 +29,7 @@ fn paint_some(
     bytes: usize,
     out: &mut [u8],
 )
-    requires { ⌜ Drawable panel display (now mem) (now rom) ⌝ }
+    requires { ⌜ Drawable panel display (now mem) × (length (now rom) ≡ 1024) ⌝ }
     requires { ⌜ (bytes ≡ rowBytes (panel .columns) (panel .width)) × (length (now out) ≡ length (now flags) * bytes) × (first + length (now flags) ≤ 2 ^ 64) ⌝ }
     ensures { λ _. ⌜ now (out .exit) ≡ joined (length (now (flags .entry))) (someRow panel display (now (mem .entry)) (now (rom .entry)) first bytes (now (flags .entry)) (now (out .entry))) ⌝ }
 {
@@ -50,7 +50,6 @@ fn paint_some(
             panel,
             display,
             mem,
-            rom,
             &glyphs,
             &shades,
             first + i,

@@ -10,8 +10,8 @@ ghost use Rattle.state.specs.Attribute.{attributed, shadesOf};
 ghost use Rattle.state.specs.Combination.{isAttribute};
 ghost use Rattle.display.specs.Displayed.{attributeByte, glyphDots, textDots, graphicDots};
 ghost use Rattle.display.specs.Layers.{layersAt};
-ghost use Rattle.display.specs.Shaded.{Shaded, fontOf};
-ghost use Rattle.display.specs.Drawable.{Drawable, GraphicOver};
+ghost use Rattle.display.specs.Shaded.{Shaded, IsFont};
+ghost use Rattle.display.specs.Drawable.{Drawable, Dotted, GraphicOver};
 use super::cell::address;
 use super::cell::byte_at;
 use super::cell::mix;
@@ -41,15 +41,14 @@ fn lay_glyphs(
     panel: Panel,
     display: Display,
     mem: &[u8],
-    rom: &[u8],
     font: &[u8],
     row: usize,
     column: usize,
     cells: &mut [u8],
 )
-    requires { ⌜ Drawable panel display (now mem) (now rom) ⌝ }
-    requires { ⌜ now font ≡ fontOf display (now mem) (now rom) ⌝ }
-    ensures { λ _. ⌜ now (cells .exit) ≡ build (length (now (cells .entry))) (λ j. glyphDots panel display (now (mem .entry)) (now (rom .entry)) row (column + j)) ⌝ }
+    requires { ⌜ Drawable panel display (now mem) ⌝ }
+    requires { ⌜ IsFont display (now mem) (now font) ⌝ }
+    ensures { λ _. ⌜ now (cells .exit) ≡ build (length (now (cells .entry))) (λ j. glyphDots panel display (now (mem .entry)) (now (font .entry)) row (column + j)) ⌝ }
 {
     let at = address(display.text, row / 8, column);
     read_round(8, mem, at, cells);
@@ -74,16 +73,15 @@ fn lay_attributes(
     panel: Panel,
     display: Display,
     mem: &[u8],
-    rom: &[u8],
     shades: &[u8],
     row: usize,
     column: usize,
     cells: &mut [u8],
 )
-    requires { ⌜ Drawable panel display (now mem) (now rom) ⌝ }
+    requires { ⌜ Drawable panel display (now mem) ⌝ }
     requires { ⌜ now shades ≡ shadesOf (panel .width) (display .phase) ⌝ }
-    requires { ⌜ now cells ≡ build (length (now cells)) (λ j. glyphDots panel display (now mem) (now rom) row (column + j)) ⌝ }
-    ensures { λ _. ⌜ now (cells .exit) ≡ build (length (now (cells .entry))) (λ j. attributed (panel .width) (display .phase) (attributeByte display (now (mem .entry)) (row / 8) (column + j)) (glyphDots panel display (now (mem .entry)) (now (rom .entry)) row (column + j))) ⌝ }
+    requires { ⌜ Dotted (panel .width) (now cells) ⌝ }
+    ensures { λ _. ⌜ now (cells .exit) ≡ build (length (now (cells .entry))) (λ j. attributed (panel .width) (display .phase) (attributeByte display (now (mem .entry)) (row / 8) (column + j)) (getD (now (cells .entry)) j 0)) ⌝ }
 {
     let all = full(panel.width);
     let mut at = address(display.graphic, row / 8, column);
@@ -109,26 +107,25 @@ fn lay_text(
     panel: Panel,
     display: Display,
     mem: &[u8],
-    rom: &[u8],
     font: &[u8],
     shades: &[u8],
     row: usize,
     column: usize,
     cells: &mut [u8],
 )
-    requires { ⌜ Drawable panel display (now mem) (now rom) ⌝ }
-    requires { ⌜ now font ≡ fontOf display (now mem) (now rom) ⌝ }
+    requires { ⌜ Drawable panel display (now mem) ⌝ }
+    requires { ⌜ IsFont display (now mem) (now font) ⌝ }
     requires { ⌜ Shaded panel display (now shades) ⌝ }
-    ensures { λ _. ⌜ now (cells .exit) ≡ build (length (now (cells .entry))) (λ j. textDots panel display (now (mem .entry)) (now (rom .entry)) row (column + j)) ⌝ }
+    ensures { λ _. ⌜ now (cells .exit) ≡ build (length (now (cells .entry))) (λ j. textDots panel display (now (mem .entry)) (now (font .entry)) row (column + j)) ⌝ }
 {
     if !display.bits.text {
         clear(cells);
         return;
     }
-    lay_glyphs(panel, display, mem, rom, font, row, column, cells);
+    lay_glyphs(panel, display, mem, font, row, column, cells);
     let combination = display.combination;
     if is_attribute(combination) & display.bits.graphic {
-        lay_attributes(panel, display, mem, rom, shades, row, column, cells);
+        lay_attributes(panel, display, mem, shades, row, column, cells);
     }
 }
 
@@ -197,7 +194,6 @@ pub(crate) fn lay(
     panel: Panel,
     display: Display,
     mem: &[u8],
-    rom: &[u8],
     font: &[u8],
     shades: &[u8],
     row: usize,
@@ -206,15 +202,15 @@ pub(crate) fn lay(
     graphic: &mut [u8],
     shown: &mut [u8],
 )
-    requires { ⌜ Drawable panel display (now mem) (now rom) ⌝ }
-    requires { ⌜ now font ≡ fontOf display (now mem) (now rom) ⌝ }
+    requires { ⌜ Drawable panel display (now mem) ⌝ }
+    requires { ⌜ IsFont display (now mem) (now font) ⌝ }
     requires { ⌜ Shaded panel display (now shades) ⌝ }
     requires { ⌜ length (now text) ≤ length (now shown) ⌝ }
-    ensures { λ _. ⌜ now (text .exit) ≡ build (length (now (text .entry))) (λ j. layersAt panel display (now (mem .entry)) (now (rom .entry)) row (column + j) .text) ⌝ }
-    ensures { λ _. ⌜ now (graphic .exit) ≡ build (length (now (graphic .entry))) (λ j. layersAt panel display (now (mem .entry)) (now (rom .entry)) row (column + j) .graphic) ⌝ }
-    ensures { λ _. ⌜ now (shown .exit) ≡ build (length (now (shown .entry))) (λ j. layersAt panel display (now (mem .entry)) (now (rom .entry)) row (column + j) .shown) ⌝ }
+    ensures { λ _. ⌜ now (text .exit) ≡ build (length (now (text .entry))) (λ j. layersAt panel display (now (mem .entry)) (now (font .entry)) row (column + j) .text) ⌝ }
+    ensures { λ _. ⌜ now (graphic .exit) ≡ build (length (now (graphic .entry))) (λ j. layersAt panel display (now (mem .entry)) (now (font .entry)) row (column + j) .graphic) ⌝ }
+    ensures { λ _. ⌜ now (shown .exit) ≡ build (length (now (shown .entry))) (λ j. layersAt panel display (now (mem .entry)) (now (font .entry)) row (column + j) .shown) ⌝ }
 {
-    lay_text(panel, display, mem, rom, font, shades, row, column, shown);
+    lay_text(panel, display, mem, font, shades, row, column, shown);
     give(shown, text);
     give_graphic(panel, display, mem, row, column, graphic);
     lay_graphic(panel, display, mem, row, column, shown);

@@ -6,7 +6,7 @@ ghost use lib.ListN.{length};
 ghost use Rattle.ground.specs.Packing.{rowBytes};
 ghost use Rattle.display.specs.Frame.{rowOf};
 ghost use Rattle.display.specs.Drawable.{Drawable, CursorOver};
-ghost use Rattle.display.specs.Shaded.{Shaded, fontOf};
+ghost use Rattle.display.specs.Shaded.{Shaded, IsFont};
 use super::cell::cursor_covers;
 use super::cell::cursor_lit;
 use super::layers::lay;
@@ -34,19 +34,18 @@ pub(crate) fn paint_row(
     panel: Panel,
     display: Display,
     mem: &[u8],
-    rom: &[u8],
     font: &[u8],
     shades: &[u8],
     row: usize,
     cells: &mut [u8],
     out: &mut [u8],
 )
-    requires { ⌜ Drawable panel display (now mem) (now rom) ⌝ }
-    requires { ⌜ now font ≡ fontOf display (now mem) (now rom) ⌝ }
+    requires { ⌜ Drawable panel display (now mem) ⌝ }
+    requires { ⌜ IsFont display (now mem) (now font) ⌝ }
     requires { ⌜ Shaded panel display (now shades) ⌝ }
     requires { ⌜ length (now cells) ≡ panel .columns ⌝ }
     requires { ⌜ length (now out) ≡ rowBytes (panel .columns) (panel .width) ⌝ }
-    ensures { λ _. ⌜ now (out .exit) ≡ rowOf panel display (now (mem .entry)) (now (rom .entry)) row ⌝ }
+    ensures { λ _. ⌜ now (out .exit) ≡ rowOf panel display (now (mem .entry)) (now (font .entry)) row ⌝ }
 {
     let mut text = [0u8; 0];
     let mut graphic = [0u8; 0];
@@ -54,7 +53,6 @@ pub(crate) fn paint_row(
         panel,
         display,
         mem,
-        rom,
         font,
         shades,
         row,

@@ -34,7 +34,6 @@ pub fn row_layers(
             panel,
             display,
             mem,
-            rom,
             &glyphs,
             &shades,
             row,

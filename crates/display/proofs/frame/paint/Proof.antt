@@ -1,5 +1,5 @@
 -- `paint` meets its contract: every row is flagged.
-use mathlib.Core.Path.{sym, _∙_}
+use mathlib.Core.Path.{sym}
 use Prim.Native.Nat.{_*_}
 use native.Mathlib.Omega.{arith}
 use Rattle.display.proofs.Flagged.{ones-many, painted-all}
@@ -28,7 +28,7 @@ same-length c = search needs
 returns : tie.Need-returns
 returns c =
     let a = c .before .before .before .before .before .before .before .before .before .args in
-    c .before .before .paint-flagged .ensures ∙ painted-all (a .panel) (a .registers) (a .mem .now) (a .rom .now) (a .frame .now) (c .before .before .before .before .before .lesser .result) (c .before .before .before .before .before .lesser .ensures)
+    painted-all (a .panel) (a .registers) (a .mem .now) (a .rom .now) (a .frame .now) (c .before .before .before .before .before .lesser .result) (c .before .before .before .before .before .lesser .ensures) (c .before .before .paint-flagged .ensures)
 
 pub paint-spec : {M : Type 1} → statement M
 paint-spec =

@@ -1,7 +1,7 @@
 -- `paint_flagged` meets its contract: the tests at the door, then the rows.
 use native.Mathlib.Omega.{arith}
 use Rattle.display.proofs.Doors.{let-in}
-use Rattle.display.proofs.Flagged.{flagged-0, flagged-no, flagged-drawable, flagged-few, flagged-row, flagged-long}
+use Rattle.display.proofs.Flagged.{flagged-0, flagged-no, flagged-drawable, flagged-rom, flagged-few, flagged-row, flagged-long}
 use borrow.Author.Needs.{needs}
 use Rattle.display.proofs.frame.paint_flagged.Statement.{statement}
 use Rattle.display.proofs.frame.paint_flagged.Tie as tie
@@ -29,7 +29,7 @@ paint-some-requires c κs =
     let m = c .before .before .before .before .frame-size .ensures .0 in
     let n = c .before .before .before .before .before .row-size .ensures in
     let o = let-in _ _ (c .before .before .refusal .ensures) (c .before .if1 .taken) in
-    (flagged-drawable (a .panel) (a .registers) (a .mem .now) (a .rom .now) (a .flags .now) (a .frame .now) i j (o .0) m (o .1), (flagged-row (a .panel) (a .registers) (a .mem .now) (a .rom .now) (a .flags .now) (a .frame .now) i j (o .0) m (o .1) n, flagged-long (a .panel) (a .registers) (a .mem .now) (a .rom .now) (a .flags .now) (a .frame .now) i j (o .0) m (o .1) n, omega (arith, flagged-few (a .panel) (a .registers) (a .mem .now) (a .rom .now) (a .flags .now) (a .frame .now) i j (o .0) m (o .1))))
+    ((flagged-drawable (a .panel) (a .registers) (a .mem .now) (a .rom .now) (a .flags .now) (a .frame .now) i j (o .0) m (o .1), flagged-rom (a .panel) (a .registers) (a .mem .now) (a .rom .now) (a .flags .now) (a .frame .now) i j (o .0) m (o .1)), (flagged-row (a .panel) (a .registers) (a .mem .now) (a .rom .now) (a .flags .now) (a .frame .now) i j (o .0) m (o .1) n, flagged-long (a .panel) (a .registers) (a .mem .now) (a .rom .now) (a .flags .now) (a .frame .now) i j (o .0) m (o .1) n, omega (arith, flagged-few (a .panel) (a .registers) (a .mem .now) (a .rom .now) (a .flags .now) (a .frame .now) i j (o .0) m (o .1))))
 
 same-length : tie.Need-same-length
 same-length c = search needs

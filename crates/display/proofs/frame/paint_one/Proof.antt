@@ -4,7 +4,7 @@ use lib.ListN.{getD-replicate}
 use Rattle.display.proofs.Dots.{one-row}
 use Rattle.display.proofs.Flagged.{all-flagged, ones}
 use Rattle.display.proofs.Doors.{let-in}
-use Rattle.display.proofs.OneRows.{one-0, one-no, one-drawable, one-size, one-stretch}
+use Rattle.display.proofs.OneRows.{one-0, one-no, one-drawable, one-rom, one-size, one-stretch}
 use borrow.Author.Needs.{needs}
 use Rattle.display.proofs.frame.paint_one.Statement.{statement}
 use Rattle.display.proofs.frame.paint_one.Tie as tie
@@ -32,7 +32,7 @@ paint-some-requires c κs =
     let j = c .before .before .before .before .before .valid2 .ensures in
     let m = c .before .before .before .before .row-size .ensures in
     let o = let-in _ _ (c .before .before .before .refusal .ensures) (c .before .before .if1 .taken) in
-    (one-drawable (a .panel) (a .display) (a .mem .now) (a .rom .now) (a .at) (a .out .now) i j (o .0) m (o .1), (one-size (a .panel) (a .display) (a .mem .now) (a .rom .now) (a .at) (a .out .now) i j (o .0) m, one-stretch (a .panel) (a .display) (a .mem .now) (a .rom .now) (a .at) (a .out .now) i j (o .0) m (o .1), omega (arith, s .good)))
+    ((one-drawable (a .panel) (a .display) (a .mem .now) (a .rom .now) (a .at) (a .out .now) i j (o .0) m (o .1), one-rom (a .panel) (a .display) (a .mem .now) (a .rom .now) (a .at) (a .out .now) i j (o .0) m (o .1)), (one-size (a .panel) (a .display) (a .mem .now) (a .rom .now) (a .at) (a .out .now) i j (o .0) m, one-stretch (a .panel) (a .display) (a .mem .now) (a .rom .now) (a .at) (a .out .now) i j (o .0) m (o .1), omega (arith, s .good)))
 
 same-length : tie.Need-same-length
 same-length c = search needs

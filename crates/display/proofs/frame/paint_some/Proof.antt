@@ -1,11 +1,12 @@
 -- `paint_some` meets its contract: row by row, each that is flagged comes back in its own stretch.
 use mathlib.Core.Path.{_≡_, refl, sym, _∙_}
-use Prim.Native.Nat.{_-_, _≤_}
+use Prim.Native.Nat.{_+_, _-_, _≤_}
 use native.Mathlib.Omega.{arith}
 use lib.ListN.{length}
 use lib.Seq.{length-take-le}
 use Rattle.ground.proofs.Rows as rows
 use Rattle.display.proofs.Dots.{as-many}
+use Rattle.display.proofs.Fonts.{is-font, row-by-font}
 use Rattle.display.proofs.Flagged.{Flagging, flagging, row-painted, row-left, rows-done}
 use borrow.Author.Needs.{needs}
 use Rattle.display.proofs.frame.paint_some.Statement.{statement}
@@ -18,10 +19,10 @@ abbrev μ-loop : tie.MeasureT-loop
 μ-loop panel display mem rom first flags bytes out₀ columns glyphs shades cells₀ next₀ out cells next = length flags - next
 
 font-requires : tie.Need-font-requires Inv-loop μ-loop
-font-requires c κs = let s = c .before .before .before .before in (s .pre .0 .memory, s .pre .0 .characters, s .pre .0 .offset)
+font-requires c κs = let s = c .before .before .before .before in (s .pre .0 .0 .memory, s .pre .0 .1, s .pre .0 .0 .offset)
 
 tables-requires : tie.Need-tables-requires Inv-loop μ-loop
-tables-requires c κs = c .before .before .before .before .before .pre .0 .width
+tables-requires c κs = c .before .before .before .before .before .pre .0 .0 .width
 
 loop-holds : tie.Need-loop-holds Inv-loop μ-loop
 loop-holds c =
@@ -63,13 +64,13 @@ add-paint-row : tie.Need-add-paint-row Inv-loop μ-loop
 add-paint-row c = omega (arith, c .before .before .before .before .loop-test .taken, c .before .before .before .before .before .before .before .before .before .before .before .before .pre .1 .2)
 
 array-borrow-prefix-cells : tie.Need-array-borrow-prefix-cells Inv-loop μ-loop
-array-borrow-prefix-cells c = omega (arith, c .before .before .before .before .before .before .before .before .before .before .before .before .pre .0 .columns, c .before .before .before .before .before .loop .inv .0)
+array-borrow-prefix-cells c = omega (arith, c .before .before .before .before .before .before .before .before .before .before .before .before .pre .0 .0 .columns, c .before .before .before .before .before .loop .inv .0)
 
 slice-aggregate-paint-row-3 : tie.Need-slice-aggregate-paint-row-3 Inv-loop μ-loop
 slice-aggregate-paint-row-3 c =
     let s = c .before .before .before .before .before .before .before .before .before .before .before .before .before in
     let l = c .before .before .before .before .before .before .loop in
-    let h : s .args .panel .columns ≤ length (l .cells) = omega (arith, s .pre .0 .columns, l .inv .0) in
+    let h : s .args .panel .columns ≤ length (l .cells) = omega (arith, s .pre .0 .0 .columns, l .inv .0) in
     sym (length-take-le _ _ h)
 
 sub-paint-row : tie.Need-sub-paint-row Inv-loop μ-loop
@@ -85,8 +86,8 @@ paint-row-requires : tie.Need-paint-row-requires Inv-loop μ-loop
 paint-row-requires c κs =
     let s = c .before .before .before .before .before .before .before .before .before .before .before .before .before .before in
     let l = c .before .before .before .before .before .before .before .loop in
-    let m : s .args .panel .columns ≤ length (l .cells) = omega (arith, s .pre .0 .columns, l .inv .0) in
-    (s .pre .0, (c .before .before .before .before .before .before .before .before .before .font .ensures .0, (c .before .before .before .before .before .before .before .before .tables .ensures .0, (length-take-le _ _ m, rows.stretch-length (l .inv .1) (c .before .before .before .before .before .before .loop-test .taken) ∙ s .pre .1 .0))))
+    let m : s .args .panel .columns ≤ length (l .cells) = omega (arith, s .pre .0 .0 .columns, l .inv .0) in
+    (s .pre .0 .0, (is-font (s .args .display) (s .args .mem .now) (s .args .rom .now) (c .before .before .before .before .before .before .before .before .before .font .ensures .0), (c .before .before .before .before .before .before .before .before .tables .ensures .0, (length-take-le _ _ m, rows.stretch-length (l .inv .1) (c .before .before .before .before .before .before .loop-test .taken) ∙ s .pre .1 .0))))
 
 loop-less-2 : tie.Need-loop-less-2 Inv-loop μ-loop
 loop-less-2 c = omega (arith, c .before .before .before .before .before .before .before .before .before .before .loop-test .taken)
@@ -95,7 +96,7 @@ loop-again-2 : tie.Need-loop-again-2 Inv-loop μ-loop
 loop-again-2 c =
     let s = c .before .before .before .before .before .before .before .before .before .before .before .before .before .before .before .before .before .before in
     let k = c .before .before .before .before .before .before .before .before .before .before .before .loop in
-    (as-many (s .args .panel .columns) (c .before .before .before .paint-row .last .1 .1 .1 .1 .1 .1 .1 .0) (k .cells) (c .before .before .cells2 .given) (k .inv .0), row-painted (s .args .panel) (s .args .display) (s .args .mem .now) (s .args .rom .now) (s .args .first) (s .args .bytes) (s .args .flags .now) (s .args .out .now) (k .inv .1) (c .before .before .before .before .before .before .before .before .before .before .loop-test .taken) (c .before .before .before .before .before .before .before .before .if1 .left) (c .before .before .before .paint-row .ensures))
+    (as-many (s .args .panel .columns) (c .before .before .before .paint-row .last .1 .1 .1 .1 .1 .1 .0) (k .cells) (c .before .before .cells2 .given) (k .inv .0), row-painted (s .args .panel) (s .args .display) (s .args .mem .now) (s .args .rom .now) (s .args .first) (s .args .bytes) (s .args .flags .now) (s .args .out .now) (k .inv .1) (c .before .before .before .before .before .before .before .before .before .before .loop-test .taken) (c .before .before .before .before .before .before .before .before .if1 .left) (row-by-font (s .args .panel) (s .args .display) (s .args .mem .now) (s .args .rom .now) (s .args .first + k .next) (c .before .before .before .before .before .before .before .before .before .before .before .before .before .font .ensures .0) (c .before .before .before .paint-row .ensures)))
 
 same-length : tie.Need-same-length Inv-loop μ-loop
 same-length c = rows.same-length (c .before .loop .inv .1)

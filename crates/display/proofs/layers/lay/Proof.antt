@@ -1,6 +1,7 @@
 -- `lay` meets its contract: the text, given out, the graphic, given out, and both mixed.
 use mathlib.Core.Path.{refl}
 use Prim.Native.Nat.{ℕ, _+_}
+use lib.ListN.{length}
 use Rattle.display.specs.Displayed.{textDots, displayedByte}
 use Rattle.display.proofs.Passes.{own-count, same-count, front-of}
 use borrow.Author.Needs.{needs}
@@ -30,11 +31,11 @@ same-length-3 c = search needs
 
 returns : tie.Need-returns
 returns c =
-    let s = c .before .before .before .before .before .before .before .before .before .before .before .before .before .before .before .before .before .before .before .before .before .before .before .before in
+    let s = c .before .before .before .before .before .before .before .before .before .before .before .before .before .before .before .before .before .before .before .before .before .before .before in
     let a = s .args in
-    let text : ℕ → ℕ = λ j. textDots (a .panel) (a .display) (a .mem .now) (a .rom .now) (a .row) (a .column + j) in
-    let shown : ℕ → ℕ = λ j. displayedByte (a .panel) (a .display) (a .mem .now) (a .rom .now) (a .row) (a .column + j) in
-    (front-of text _ _ (a .text .now) (c .before .before .before .before .before .before .before .before .before .before .before .before .before .before .before .lay-text .ensures) (s .pre .1 .1 .1) (c .before .before .before .before .before .before .before .before .before .before .give .ensures), (c .before .before .before .before .before .before .give-graphic .ensures, same-count text shown (a .shown .now) (c .before .before .before .before .before .before .before .before .before .before .before .before .before .before .before .lay-text .last .1 .1 .1 .1 .1 .1 .1 .1 .0) refl (c .before .before .before .before .before .before .before .before .before .before .before .before .before .before .before .lay-text .ensures) (c .before .before .lay-graphic .ensures (a .rom .now) (own-count _ _ (c .before .before .before .before .before .before .before .before .before .before .before .before .before .before .before .lay-text .ensures)))))
+    let text : ℕ → ℕ = λ j. textDots (a .panel) (a .display) (a .mem .now) (a .font .now) (a .row) (a .column + j) in
+    let shown : ℕ → ℕ = λ j. displayedByte (a .panel) (a .display) (a .mem .now) (a .font .now) (a .row) (a .column + j) in
+    (front-of text (length (a .shown .now)) _ (a .text .now) (c .before .before .before .before .before .before .before .before .before .before .before .before .before .before .before .lay-text .ensures) (s .pre .1 .1 .1) (c .before .before .before .before .before .before .before .before .before .before .give .ensures), (c .before .before .before .before .before .before .give-graphic .ensures, same-count text shown (a .shown .now) (c .before .before .before .before .before .before .before .before .before .before .before .before .before .before .before .lay-text .last .1 .1 .1 .1 .1 .1 .1 .0) refl (c .before .before .before .before .before .before .before .before .before .before .before .before .before .before .before .lay-text .ensures) (c .before .before .lay-graphic .ensures (a .font .now) (own-count text (length (a .shown .now)) (c .before .before .before .before .before .before .before .before .before .before .before .before .before .before .before .lay-text .ensures)))))
 
 pub lay-spec : {M : Type 1} → statement M
 lay-spec =

@@ -1,12 +1,10 @@
 -- `lay_text` meets its contract: none, glyphs under attributes, or glyphs.
 use mathlib.Core.Path.{_≡_, sym, _∙_}
 use mathlib.Core.Bool.{true}
-use Prim.Native.Nat.{ℕ, _+_}
 use lib.ListN.{length}
 use Rattle.ground.proofs.Tests.{both-left}
 use Rattle.state.specs.Combination.{isAttribute}
-use Rattle.display.specs.Displayed.{glyphDots}
-use Rattle.display.proofs.Passes.{own-count, blank-text, shown-text, plain-text}
+use Rattle.display.proofs.Passes.{glyphs-dotted, blank-text, shown-text, plain-text}
 use borrow.Author.Needs.{needs}
 use Rattle.display.proofs.layers.lay_text.Statement.{statement}
 use Rattle.display.proofs.layers.lay_text.Tie as tie
@@ -28,17 +26,17 @@ is-attribute-requires c κs = search needs
 
 lay-attributes-requires : tie.Need-lay-attributes-requires
 lay-attributes-requires c κs =
-    let s = c .before .before .before .before .before .before .before .before .before .before .before .before .before .before .before in
+    let s = c .before .before .before .before .before .before .before .before .before .before .before .before .before .before in
     let e : isAttribute (s .args .display .combination) ≡ true = sym (c .before .before .before .is-attribute .ensures) ∙ both-left _ (s .args .display .bits .graphic) (c .before .if2 .taken) in
-    (s .pre .0, (s .pre .1 .1 .made e, own-count (λ (j : ℕ). glyphDots (s .args .panel) (s .args .display) (s .args .mem .now) (s .args .rom .now) (s .args .row) (s .args .column + j)) (length (s .args .cells .now)) (c .before .before .before .before .before .before .lay-glyphs .ensures)))
+    (s .pre .0, (s .pre .1 .1 .made e, glyphs-dotted (s .args .panel) (s .args .display) (s .args .mem .now) (s .args .font .now) (s .args .row) (s .args .column) (length (s .args .cells .now)) (c .before .before .before .before .before .before .lay-glyphs .ensures)))
 
 same-length-2 : tie.Need-same-length-2
 same-length-2 c = search needs
 
 returns-2 : tie.Need-returns-2
 returns-2 c =
-    let a = c .before .before .before .before .before .before .before .before .before .before .before .before .before .before .before .before .before .before .args in
-    shown-text (a .panel) (a .display) (a .mem .now) (a .rom .now) (a .row) (a .column) (a .cells .now) _ (c .before .before .before .before .before .before .before .before .before .before .before .if1 .left) (c .before .before .before .before .before .before .is-attribute .ensures) (c .before .before .before .before .if2 .taken) (c .before .before .before .before .before .before .before .before .before .lay-glyphs .ensures) (c .before .before .lay-attributes .ensures)
+    let a = c .before .before .before .before .before .before .before .before .before .before .before .before .before .before .before .before .before .args in
+    shown-text (a .panel) (a .display) (a .mem .now) (a .font .now) (a .row) (a .column) (a .cells .now) _ (c .before .before .before .before .before .before .before .before .before .before .before .if1 .left) (c .before .before .before .before .before .before .is-attribute .ensures) (c .before .before .before .before .if2 .taken) (c .before .before .before .before .before .before .before .before .before .lay-glyphs .ensures) (c .before .before .lay-attributes .ensures)
 
 same-length-3 : tie.Need-same-length-3
 same-length-3 c = search needs

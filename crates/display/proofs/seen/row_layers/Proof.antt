@@ -1,6 +1,8 @@
 -- `row_layers` meets its contract: the tests at the door, then the layers.
+use lib.ListN.{length}
 use Rattle.display.proofs.Doors.{let-in}
-use Rattle.display.proofs.Asked.{asked-0, asked-no, asked-room, asked-drawable}
+use Rattle.display.proofs.Fonts.{is-font, text-by-font, shown-by-font}
+use Rattle.display.proofs.Asked.{asked-0, asked-no, asked-room, asked-rom, asked-drawable}
 use borrow.Author.Needs.{needs}
 use Rattle.display.proofs.seen.row_layers.Statement.{statement}
 use Rattle.display.proofs.seen.row_layers.Tie as tie
@@ -21,7 +23,7 @@ font-requires c κs =
     let j = c .before .before .valid2 .ensures in
     let o = let-in _ _ (c .before .refusal .ensures) (c .if1 .taken) in
     let d = asked-drawable (a .panel) (a .display) (a .mem .now) (a .rom .now) (a .row) (a .column) (a .text .now) (a .graphic .now) (a .shown .now) i j (o .0) (o .1) in
-    (d .memory, d .characters, d .offset)
+    (d .memory, asked-rom (a .panel) (a .display) (a .mem .now) (a .rom .now) (a .row) (a .column) (a .text .now) (a .graphic .now) (a .shown .now) i j (o .0) (o .1), d .offset)
 
 tables-requires : tie.Need-tables-requires
 tables-requires c κs =
@@ -43,7 +45,7 @@ lay-requires c κs =
     let i = c .before .before .before .before .before .before .before .before .before .before .valid .ensures in
     let j = c .before .before .before .before .before .before .before .before .before .valid2 .ensures in
     let o = let-in _ _ (c .before .before .before .before .before .before .before .before .refusal .ensures) (c .before .before .before .before .before .before .before .if1 .taken) in
-    (asked-drawable (a .panel) (a .display) (a .mem .now) (a .rom .now) (a .row) (a .column) (a .text .now) (a .graphic .now) (a .shown .now) i j (o .0) (o .1), (c .before .before .before .before .before .before .font .ensures .0, (c .before .before .before .before .before .tables .ensures .0, asked-room (a .panel) (a .display) (a .mem .now) (a .rom .now) (a .row) (a .column) (a .text .now) (a .graphic .now) (a .shown .now) i j (o .0) (o .1))))
+    (asked-drawable (a .panel) (a .display) (a .mem .now) (a .rom .now) (a .row) (a .column) (a .text .now) (a .graphic .now) (a .shown .now) i j (o .0) (o .1), (is-font (a .display) (a .mem .now) (a .rom .now) (c .before .before .before .before .before .before .font .ensures .0), (c .before .before .before .before .before .tables .ensures .0, asked-room (a .panel) (a .display) (a .mem .now) (a .rom .now) (a .row) (a .column) (a .text .now) (a .graphic .now) (a .shown .now) i j (o .0) (o .1))))
 
 same-length : tie.Need-same-length
 same-length c = search needs
@@ -61,7 +63,8 @@ returns c =
     let j = c .before .before .before .before .before .before .before .before .before .before .before .before .before .before .before .before .valid2 .ensures in
     let o = let-in _ _ (c .before .before .before .before .before .before .before .before .before .before .before .before .before .before .before .refusal .ensures) (c .before .before .before .before .before .before .before .before .before .before .before .before .before .before .if1 .taken) in
     let l = c .before .before .before .before .before .before .lay in
-    asked-0 (a .panel) (a .display) (a .mem .now) (a .rom .now) (a .row) (a .column) (a .text .now) (a .graphic .now) (a .shown .now) i j (o .0) (o .1) {t = l .last .1 .1 .1 .1 .1 .1 .1 .1 .0} (c .before .before .before .before .before .before .before .before .before .before .before .before .before .before .if1 .taken) (l .ensures .0) (l .ensures .1 .0) (l .ensures .1 .1)
+    let f = c .before .before .before .before .before .before .before .before .before .before .before .before .before .font .ensures .0 in
+    asked-0 (a .panel) (a .display) (a .mem .now) (a .rom .now) (a .row) (a .column) (a .text .now) (a .graphic .now) (a .shown .now) i j (o .0) (o .1) {t = l .last .1 .1 .1 .1 .1 .1 .1 .0} (c .before .before .before .before .before .before .before .before .before .before .before .before .before .before .if1 .taken) (text-by-font (a .panel) (a .display) (a .mem .now) (a .rom .now) (a .row) f (a .column) (length (a .text .now)) (l .ensures .0)) (l .ensures .1 .0) (shown-by-font (a .panel) (a .display) (a .mem .now) (a .rom .now) (a .row) f (a .column) (length (a .shown .now)) (l .ensures .1 .1))
 
 returns-2 : tie.Need-returns-2
 returns-2 c =
