@@ -1,4 +1,3 @@
 pub mod Aparts
-pub mod Copies
 pub mod Verdicts
 pub mod Claimed

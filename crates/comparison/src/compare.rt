@@ -1,7 +1,6 @@
 // Two logs, each run in a memory of its own.
 ghost use mathlib.Core.Path.{_≡_};
 ghost use mathlib.Core.Bool.{true};
-ghost use lib.ListN.{length};
 ghost use Rattle.state.specs.State.{validPanel, resetRegisters};
 ghost use Rattle.display.specs.Frame.{lentLengths};
 ghost use Rattle.entries.specs.Listed.{differencesFrom};
@@ -15,6 +14,7 @@ use super::dots::dots;
 use controller::run::Ran;
 use entries::enter::Entered;
 use entries::enter::enter;
+use ground::stretches::give;
 use image::values::register_values;
 use state::panel::Panel;
 use state::registers::Registers;
@@ -40,15 +40,6 @@ fn refused(number: u8, place: usize, log: u8) -> Compared
         memory: 0,
         registers: 0,
         dots: 0,
-    }
-}
-
-fn copy_bytes(from: &[u8], to: &mut [u8])
-    requires { ⌜ length (now from) ≡ length (now to) ⌝ }
-    ensures { λ _. ⌜ now (to .exit) ≡ now (from .entry) ⌝ }
-{
-    for i in 0..to.len() {
-        to[i] = from[i];
     }
 }
 
@@ -166,7 +157,7 @@ pub fn compare(
     if valid {
         let fits = (one.len() == 65536) & (two.len() == 65536) & (rom.len() == 1024);
         if fits {
-            copy_bytes(one, two);
+            give(one, two);
             return run_both(panel, one, two, rom, log_one, log_two, list);
         }
         return refused(2, 0, 0);

@@ -1,31 +1,29 @@
 -- The glyphs of all codes side by side: from memory, or below 80H from the ROM; and the codes of a row looked up in them.
 use mathlib.Core.Path.{_≡_, refl, ap, sym, _∙_}
-use mathlib.Core.List.{List, _++_}
+use mathlib.Core.List.{List}
 use mathlib.Core.Bool.{Bool, true, false, cond, not, _&&_}
 use Prim.Native.Nat.{ℕ, _+_, _-_, _*_, _/_, _%_, _^_, _<_}
 use native.Mathlib.Decide.{decLt}
 use native.Mathlib.Omega.{arith}
 use lib.Dec.{ltb}
-use lib.ListN.{length, getD, take, drop, length-append, length-drop, List·getD-append}
-use lib.Seq.{getD-append-add, getD-take, getD-drop, ext-getD, length-take-le}
-use borrow.Author.Tests.{ltb-true, lt-ltb, le-ltb}
-use Rattle.ground.specs.Lists.{build}
+use lib.ListN.{length, getD, take, drop, length-drop}
+use lib.Seq.{getD-take, getD-drop, ext-getD, length-take-le}
+use borrow.Author.Tests.{eq-eqb, ltb-true, lt-ltb, le-ltb}
+use Rattle.ground.specs.Lists.{build, roundByte, readRound, lookedUp, givenTo}
 use Rattle.ground.proofs.Lists.{build-length, build-at, build-cong}
+use Rattle.ground.proofs.Passes.{given-long, given-at, left-at, code-found, round-read}
+use Rattle.ground.proofs.Tests.{both}
 use Rattle.display.specs.Types.{Panel, Display}
 use Rattle.ground.specs.Packing.{rowFrom}
 use Rattle.state.specs.Attribute.{attributed}
-use Rattle.state.specs.Combination.{isAttribute}
-use Rattle.display.specs.Displayed.{addressOf, textCode, glyphRow, attributeByte, textLayer, mixed, glyphDots, textDots, graphicDots, displayedByte, cursorLit, cursorCovers, cellByte}
+use Rattle.state.specs.Combination.{isAttribute, mixed}
+use Rattle.state.specs.Address.{addressOf}
+use Rattle.display.specs.Displayed.{textCode, glyphRow, attributeByte, textLayer, glyphDots, textDots, graphicDots, displayedByte, cursorLit, cursorCovers, cellByte}
 use Rattle.display.specs.Frame.{rowOf}
 use Rattle.display.specs.Shaded.{fontOf, IsFont}
-use Rattle.display.proofs.Passes.{roundByte, glyphIn}
-
--- a byte of a stretch of memory
-pub stretch-at : (mem : List ℕ) (b n j : ℕ) → j < n → getD (take n (drop b mem)) j 0 ≡ getD mem (b + j) 0
-stretch-at mem b n j h = getD-take n (drop b mem) j 0 h ∙ getD-drop b mem j 0
 
 module _ (d : Display) (mem rom : List ℕ) where
-  pub font-length : length (fontOf d mem rom) ≡ 2048
+  font-length : length (fontOf d mem rom) ≡ 2048
   unfolding fontOf
   font-length = build-length 2048 (λ i. glyphRow d mem rom (i / 8) (i % 8))
 
@@ -72,12 +70,18 @@ module _ (d : Display) (mem rom : List ℕ) where
       ap (λ (m : ℕ). getD rom m 0) (sym (by-place i))
       ∙ sym (ap (λ (t : Bool). cond t (getD rom (8 * (i / 8) + i % 8) 0) (getD mem (2048 * d .offset + 8 * (i / 8) + i % 8) 0)) e)
 
-  module _ {l : List ℕ} {m : ℕ} {g : ℕ → ℕ} (k : l ≡ build m g) (s : m ≡ 2048) (bank : (j : ℕ) → j < 2048 → g j ≡ getD mem (2048 * d .offset + j) 0) where
+  -- the bank at the offset, given to a list of as many bytes
+  module _ {l : List ℕ} (z : List ℕ) (n : ℕ) (k : l ≡ givenTo (take n (drop (2048 * d .offset) mem)) z) (s : n ≡ 2048) (t : length z ≡ 2048) (m : length mem ≡ 65536)
+      (o : d .offset < 32) where
     font-long : length l ≡ 2048
-    font-long = ap length k ∙ build-length m g ∙ s
+    font-long = ap length k ∙ given-long (take n (drop (2048 * d .offset) mem)) z ∙ t
 
     banked : (j : ℕ) → j < 2048 → getD l j 0 ≡ getD mem (2048 * d .offset + j) 0
-    banked j h = ap (λ (x : List ℕ). getD x j 0) k ∙ build-at m g j 0 (omega (arith, s)) ∙ bank j h
+    banked j h =
+        let bank : length (take n (drop (2048 * d .offset) mem)) ≡ n =
+        length-take-le n (drop (2048 * d .offset) mem) (omega (arith, length-drop (2048 * d .offset) mem, m, s, o)) in
+        ap (λ (x : List ℕ). getD x j 0) k ∙ given-at (take n (drop (2048 * d .offset) mem)) z j (omega (arith, t)) (omega (arith, bank, s))
+        ∙ getD-take n (drop (2048 * d .offset) mem) j 0 (omega (arith, s)) ∙ getD-drop (2048 * d .offset) mem j 0
 
     -- characters external
     pub all-memory : not (d .external) ≡ false → (l ≡ fontOf d mem rom) × (2048 ≡ length l)
@@ -91,42 +95,38 @@ module _ (d : Display) (mem rom : List ℕ) where
     )
 
     -- characters internal: the ROM's over the first half
-    pub rom-over : {x : List ℕ} → not (d .external) ≡ true → x ≡ build (length (take 1024 l)) (λ j. getD rom j 0) → (x ++ drop 1024 l ≡ fontOf d mem rom) × (2048 ≡ length (x ++ drop 1024 l))
+    pub rom-over : {x : List ℕ} → not (d .external) ≡ true → length rom ≡ 1024 → x ≡ givenTo rom l → (x ≡ fontOf d mem rom) × (2048 ≡ length x)
     unfolding fontOf
-    rom-over {x} e f = (
-      ext-getD 0 (x ++ drop 1024 l) (build 2048 (λ i. glyphRow d mem rom (i / 8) (i % 8))) (sym long ∙ sym (build-length 2048 (λ i. glyphRow d mem rom (i / 8) (i % 8))))
+    rom-over {x} e h f = (
+      ext-getD 0 x (build 2048 (λ i. glyphRow d mem rom (i / 8) (i % 8))) (sym long ∙ sym (build-length 2048 (λ i. glyphRow d mem rom (i / 8) (i % 8))))
           (λ i h. let n : i < 2048 = omega (arith, long) in each i n (decLt i 1024) ∙ sym (build-at 2048 (λ i. glyphRow d mem rom (i / 8) (i % 8)) i 0 n)),
       long,
     )
       where
-        front : length (take 1024 l) ≡ 1024
-        front = length-take-le 1024 l (omega (arith, font-long))
+        long : 2048 ≡ length x
+        long = sym (ap length f ∙ given-long rom l ∙ font-long)
 
-        half : length x ≡ 1024
-        half = ap length f ∙ build-length (length (take 1024 l)) (λ j. getD rom j 0) ∙ front
-
-        long : 2048 ≡ length (x ++ drop 1024 l)
-        long = sym (length-append x (drop 1024 l) ∙ (λ i. half i + length-drop 1024 l i) ∙ (let o : 1024 + (length l - 1024) ≡ 2048 = omega (arith, font-long) in o))
-
-        each : (i : ℕ) → i < 2048 → Dec (i < 1024) → getD (x ++ drop 1024 l) i 0 ≡ glyphRow d mem rom (i / 8) (i % 8)
+        each : (i : ℕ) → i < 2048 → Dec (i < 1024) → getD x i 0 ≡ glyphRow d mem rom (i / 8) (i % 8)
         each i n (yes q) =
-            List·getD-append x (drop 1024 l) 0 i (omega (arith, half))
-            ∙ ap (λ (z : List ℕ). getD z i 0) f ∙ build-at (length (take 1024 l)) (λ j. getD rom j 0) i 0 (omega (arith, front))
+            ap (λ (z : List ℕ). getD z i 0) f ∙ given-at rom l i (omega (arith, font-long)) (omega (arith, h))
             ∙ from-rom i ((λ t. e t && lt-ltb (i / 8) 0x80 (omega arith) t))
         each i n (no q) =
-            ap (λ (z : ℕ). getD (x ++ drop 1024 l) z 0) (let o : i ≡ length x + (i - 1024) = omega (arith, half) in o)
-            ∙ getD-append-add x (drop 1024 l) (i - 1024) 0 ∙ getD-drop 1024 l (i - 1024) 0
-            ∙ ap (λ (z : ℕ). getD l z 0) (let o : 1024 + (i - 1024) ≡ i = omega arith in o)
+            ap (λ (z : List ℕ). getD z i 0) f ∙ left-at rom l i (omega (arith, font-long)) (omega (arith, h))
             ∙ banked i n ∙ from-memory i ((λ t. e t && le-ltb (i / 8) 0x80 (omega arith) t))
 
 -- the codes of a line, looked up
 module _ (p : Panel) (d : Display) (mem rom : List ℕ) (r first : ℕ) where
-  pub looked-up : {start : ℕ} {font codes : List ℕ} (n : ℕ) → start ≡ addressOf (d .text) (r / 8) first → font ≡ fontOf d mem rom → ((i : ℕ) → getD mem i 0 < 256)
-      → codes ≡ build n (roundByte 8 mem start) → {l : List ℕ} → l ≡ build (length codes) (glyphIn (p .width) font (r % 8) codes)
-      → l ≡ build n (λ j. glyphDots p d mem rom r (first + j))
+  pub looked-up : {start : ℕ} {font codes : List ℕ} (cells : List ℕ) → start ≡ addressOf (d .text) (r / 8) first → font ≡ fontOf d mem rom
+      → length mem ≡ 65536 → ((i : ℕ) → getD mem i 0 < 256) → codes ≡ readRound 8 mem start cells
+      → {l : List ℕ} → l ≡ lookedUp (p .width) font (r % 8) codes
+      → l ≡ build (length cells) (λ j. glyphDots p d mem rom r (first + j))
   unfolding glyphDots textCode
-  looked-up {start} {font} {codes} n s f bytes k h =
-      h ∙ ap (λ (m : ℕ). build m (glyphIn (p .width) font (r % 8) codes)) (ap length k ∙ build-length n (roundByte 8 mem start))
+  looked-up {start} {font} {codes} cells s f whole bytes e h =
+      let n = length cells in
+      let k : codes ≡ build n (roundByte 8 mem start) = e ∙ round-read 8 mem start cells whole in
+      let long : length font ≡ 2048 = ap length f ∙ font-length d mem rom in
+      h ∙ code-found (p .width) font (r % 8) codes refl (both (eq-eqb (length font) 2048 long) (lt-ltb (r % 8) 8 (omega arith)))
+      ∙ ap (λ (m : ℕ). build m (λ j. getD font (8 * getD codes j 0 + r % 8) 0 % 2 ^ p .width)) (ap length k ∙ build-length n (roundByte 8 mem start))
       ∙ build-cong n _ _
       (λ j m.
       let at : (start + j) % 65536 ≡ addressOf (d .text) (r / 8) (first + j) = omega (arith, s) in

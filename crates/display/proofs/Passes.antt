@@ -3,7 +3,7 @@ use mathlib.Core.Path.{_≡_, refl, ap, sym, _∙_}
 use mathlib.Core.Bool.{Bool, true, false, cond, not, _&&_, true≢false}
 use mathlib.Core.List.{List}
 use mathlib.Core.Logic.{_⊎_, ⊎-elim}
-use Prim.Native.Nat.{ℕ, _+_, _-_, _*_, _/_, _%_, _^_, _<_, _≤_, min}
+use Prim.Native.Nat.{ℕ, _+_, _-_, _/_, _%_, _^_, _<_, _≤_, min}
 use native.Mathlib.Nat.{mod-eq-of-lt}
 use native.Mathlib.Decide.{ℕ-discrete}
 use native.Mathlib.Omega.{arith}
@@ -12,42 +12,24 @@ use lib.Bits.{bitAnd, bitOr, and-zero-r, or-zero-l, or-zero-r, and-mask}
 use lib.Pow.{ones-sub-lt}
 use lib.ListN.{length, getD, set, length-set}
 use lib.Seq.{getD-set-same, getD-set-other, ext-getD}
-use borrow.Author.Tests.{ne-eqb, ltb-true, lt-ltb, le-ltb}
-use Rattle.ground.specs.Lists.{build}
+use borrow.Author.Tests.{eq-eqb, ne-eqb, ltb-true, lt-ltb, le-ltb}
+use Rattle.ground.specs.Lists.{build, readRound, givenTo}
 use Rattle.ground.proofs.Lists.{build-length, build-at, build-cong}
 use Rattle.ground.specs.Packing.{rowBytes, rowFrom, packOf}
-use Rattle.ground.proofs.Filling.{Filled, none-yet, one-more, unwritten}
+use Rattle.ground.proofs.Lows.{full-low}
+use Rattle.ground.proofs.Passes.{given-front, round-read}
 use Rattle.ground.proofs.Packs.{packed-by-rule}
-use Rattle.ground.proofs.Tests.{both-right}
+use Rattle.ground.proofs.Tests.{both, both-right}
 use Rattle.display.specs.Types.{Panel, Display, Combination, Or, Exor, And, Attribute, Manner, Normal, Reverse, Inhibit}
 use Rattle.display.proofs.Bounds.{glyph-lt}
 use Rattle.display.proofs.Cases.{graphic-on, graphic-off, text-off, text-plain, text-attributed, shown, cell-shown, cell-cursor}
-use Rattle.display.specs.Drawable.{Dotted, GraphicOver}
+use Rattle.display.specs.Drawable.{GraphicOver}
 use Rattle.state.specs.Halves.{cursorY}
-use Rattle.display.specs.Displayed.{addressOf, attributeByte, mixed, glyphDots, textDots, graphicDots, displayedByte, cursorLit, cursorCovers, cellByte}
-use Rattle.state.specs.Attribute.{lookOf, shownAs, attributed, shadesOf}
-use Rattle.state.specs.Combination.{isAttribute}
-
--- a pass: the cells filled up to n by a rule, the layer's address at cell n
-pub record Going (f : ℕ → ℕ) (start : ℕ) (l₀ l : List ℕ) (at n : ℕ) : Type 0 where
-  pub filled : Filled f l₀ l n
-  pub place : at ≡ (start + n) % 65536
-
-module _ (f : ℕ → ℕ) (start : ℕ) (l₀ : List ℕ) where
-  pub goes-from : {at : ℕ} → at ≡ (start + 0) % 65536 → Going f start l₀ l₀ at 0
-  goes-from e = record { filled = none-yet f l₀; place = e }
-
-  module _ {l : List ℕ} {at n : ℕ} (k : Going f start l₀ l at n) (h : n < length l₀) where
-    pub goes-on : {next v : ℕ} → v ≡ f n → next ≡ (at + 1) % 2 ^ 16 → Going f start l₀ (set l n v) next (n + 1)
-    goes-on e i = record { filled = one-more f l₀ (k .filled) h e; place = omega (arith, i, k .place) }
-
-    -- what is read where the next is written is as it was
-    pub still : getD l n 0 ≡ getD l₀ n 0
-    still = unwritten f l₀ (k .filled)
-
--- codes in cells, and what a font has for them in dot row v
-abbrev pub glyphIn : ℕ → List ℕ → ℕ → List ℕ → ℕ → ℕ
-glyphIn w font v cells n = getD font (8 * getD cells n 0 + v) 0 % 2 ^ w
+use Rattle.state.specs.Address.{addressOf}
+use Rattle.display.specs.Displayed.{attributeByte, glyphDots, textDots, graphicDots, displayedByte, cursorLit, cursorCovers, cellByte}
+use Rattle.state.specs.Attribute.{lookOf, shownAs, attributed, shadesOf, shaded, shadedAt, shadedRound}
+use Rattle.state.proofs.Rounds.{all-shaded, all-mixed}
+use Rattle.state.specs.Combination.{isAttribute, mixed, mixedRound}
 
 -- a cell of a row that a rule has made
 pub of-rule : (g : ℕ → ℕ) {l : List ℕ} {n : ℕ} → l ≡ build (length l) g → n < length l → getD l n 0 ≡ g n
@@ -112,27 +94,6 @@ module _ (p : Panel) (d : Display) (mem rom : List ℕ) (r : ℕ) where
             ap (displayedByte p d mem rom r) q ∙ cell-shown p d mem rom r (d .cursor .x) i j e refl ∙ ap (cellByte p d mem rom r) (sym q)
         go c (no q) = beside c q
 
--- the dots n of a cell, from what its code makes of all dots set and of all reset
-abbrev pub shaded : List ℕ → ℕ → ℕ → ℕ → ℕ
-shaded shades all code n = bitOr (bitAnd n (getD shades code 0)) (bitAnd (all - n) (getD shades (code + 16) 0))
-
--- the cells of a row so, before a word is said of where the table and the dots come from
-abbrev pub shadedAt : List ℕ → ℕ → List ℕ → ℕ → List ℕ → ℕ → ℕ
-shadedAt shades all mem start cells c = shaded shades all (getD mem ((start + c) % 65536) 0 % 16) (getD cells c 0)
-
-pub record Shading (shades : List ℕ) (all : ℕ) (mem : List ℕ) (start : ℕ) (l₀ l : List ℕ) (at n : ℕ) : Type 0 where
-  pub going : Going (shadedAt shades all mem start l₀) start l₀ l at n
-
-pub shades-from : {shades mem l₀ : List ℕ} {all start at : ℕ} → at ≡ (start + 0) % 65536 → Shading shades all mem start l₀ l₀ at 0
-shades-from e = record { going = goes-from _ _ _ e }
-
-pub shades-on : {shades mem l₀ l : List ℕ} {all start at n b next : ℕ} → Shading shades all mem start l₀ l at n → n < length l₀
-    → b ≡ getD mem at 0 → next ≡ (at + 1) % 2 ^ 16
-    → Shading shades all mem start l₀ (set l n (shaded shades all (b % 16) (getD l n 0))) next (n + 1)
-shades-on {shades} {mem} {l₀} {l} {all} {start} {at} {n} {b} k h e f =
-    let i : b ≡ getD mem ((start + n) % 65536) 0 = e ∙ ap (λ (m : ℕ). getD mem m 0) (k .going .place) in
-    record { going = goes-on _ _ _ (k .going) h (λ q. shaded shades all (i q % 16) (still _ _ _ (k .going) h q)) f }
-
 -- a table of a width that there is
 pub eight-most : (w : ℕ) (normal : Bool) → (w ≡ 6) ⊎ (w ≡ 8) → shadesOf (min w 8) normal ≡ shadesOf w normal
 eight-most w normal h = ap (λ (v : ℕ). shadesOf v normal) (⊎-elim (λ (e : w ≡ 6). omega arith) (λ (e : w ≡ 8). omega arith) h)
@@ -174,35 +135,33 @@ module _ (w n : ℕ) (h : n < 2 ^ w) where
       two-ways (lookOf (a % 16 % 16) .blinks && not normal) (lookOf (a % 16 % 16) .shown)
       ∙ ap (λ (m : ℕ). cond (lookOf m .blinks && not normal) 0 (shownAs (lookOf m .shown) w n)) e
 
--- glyph rows have no dot above their w
-pub glyphs-dotted : (p : Panel) (d : Display) (mem rom : List ℕ) (r first n : ℕ) {l : List ℕ} → l ≡ build n (λ j. glyphDots p d mem rom r (first + j)) → Dotted (p .width) l
-glyphs-dotted p d mem rom r first n {l} e j h =
-    let long : length l ≡ n = ap length e ∙ build-length n (λ j. glyphDots p d mem rom r (first + j)) in
-    let here : getD l j 0 ≡ glyphDots p d mem rom r (first + j) = ap (λ (x : List ℕ). getD x j 0) e ∙ build-at n (λ j. glyphDots p d mem rom r (first + j)) j 0 (omega (arith, h, long)) in
-    rw here (glyph-lt p d mem rom r (first + j))
+-- glyph rows under their attributes
+module _ (p : Panel) (d : Display) (mem rom : List ℕ) (r first : ℕ) (xs ys shades : List ℕ) {start : ℕ} (w : (p .width ≡ 6) ⊎ (p .width ≡ 8))
+    (i : shades ≡ shadesOf (p .width) (d .phase)) (s : start ≡ addressOf (d .graphic) (r / 8) first)
+    (k : ys ≡ build (length xs) (λ j. glyphDots p d mem rom r (first + j))) where
+  glyph-at : (j : ℕ) → j < length xs → getD ys j 0 ≡ glyphDots p d mem rom r (first + j)
+  glyph-at j h = ap (λ (l : List ℕ). getD l j 0) k ∙ build-at (length xs) (λ j. glyphDots p d mem rom r (first + j)) j 0 h
 
-module _ (p : Panel) (d : Display) (mem : List ℕ) (r first : ℕ) (shades cells : List ℕ) {all start : ℕ}
-    (i : shades ≡ shadesOf (p .width) (d .phase)) (e : all ≡ 2 ^ p .width - 1)
-    (s : start ≡ addressOf (d .graphic) (r / 8) first) (k : Dotted (p .width) cells) where
-  -- dots that are not more than all
-  pub within : {n : ℕ} → n < length cells → getD cells n 0 ≤ all
-  within {n} h = rw e (omega (arith, k n h))
-
-  shaded-right : (n : ℕ) → n < length cells
-      → shadedAt shades all mem start cells n ≡ attributed (p .width) (d .phase) (attributeByte d mem (r / 8) (first + n)) (getD cells n 0)
+  shaded-right : (j : ℕ) → j < length xs
+      → shadedAt (p .width) mem start shades ys j ≡ attributed (p .width) (d .phase) (attributeByte d mem (r / 8) (first + j)) (getD ys j 0)
   unfolding attributeByte
-  shaded-right n h =
-      let a = attributeByte d mem (r / 8) (first + n) in
-      let w = p .width in
-      let at : getD mem ((start + n) % 65536) 0 ≡ a = ap (λ (m : ℕ). getD mem m 0) (omega (arith, s)) in
+  shaded-right j h =
+      let a = attributeByte d mem (r / 8) (first + j) in
+      let at : getD mem ((start + j) % 65536) 0 ≡ a = ap (λ (m : ℕ). getD mem m 0) (omega (arith, s)) in
       let code : a % 16 < 16 = omega arith in
-      (λ q. shaded shades all (at q % 16) (getD cells n 0))
-      ∙ (λ q. bitOr (bitAnd (getD cells n 0) (all-set w (d .phase) i (a % 16) code q)) (bitAnd (e q - getD cells n 0) (all-reset w (d .phase) i (a % 16) code q)))
-      ∙ two-rows w (getD cells n 0) (k n h) (d .phase) a
+      let few : getD ys j 0 < 2 ^ p .width = rw (glyph-at j h) (glyph-lt p d mem rom r (first + j)) in
+      (λ q. shaded shades (full-low (p .width) w q) (at q % 16) (mod-eq-of-lt few q))
+      ∙ (λ q. bitOr (bitAnd (getD ys j 0) (all-set (p .width) (d .phase) i (a % 16) code q)) (bitAnd (2 ^ p .width - 1 - getD ys j 0) (all-reset (p .width) (d .phase) i (a % 16) code q)))
+      ∙ two-rows (p .width) (getD ys j 0) few (d .phase) a
 
-  pub all-shaded : (l : List ℕ) → l ≡ build (length cells) (shadedAt shades all mem start cells)
-      → l ≡ build (length cells) (λ n. attributed (p .width) (d .phase) (attributeByte d mem (r / 8) (first + n)) (getD cells n 0))
-  all-shaded l h = h ∙ build-cong (length cells) _ _ shaded-right
+  pub attributes-laid : {zs : List ℕ} → length mem ≡ 65536 → zs ≡ shadedRound (p .width) mem start shades ys
+      → zs ≡ build (length xs) (λ j. attributed (p .width) (d .phase) (attributeByte d mem (r / 8) (first + j)) (glyphDots p d mem rom r (first + j)))
+  attributes-laid {zs} whole e =
+      let long : length shades ≡ 32 = ap length i ∙ build-length 32 _ in
+      e ∙ all-shaded (p .width) mem start shades ys refl (both (eq-eqb (length mem) 65536 whole) (eq-eqb (length shades) 32 long))
+      ∙ ap (λ (m : ℕ). build m (shadedAt (p .width) mem start shades ys)) (ap length k ∙ build-length (length xs) _)
+      ∙ build-cong (length xs) _ _
+      (λ j h. shaded-right j h ∙ ap (λ (n : ℕ). attributed (p .width) (d .phase) (attributeByte d mem (r / 8) (first + j)) n) (glyph-at j h))
 
 -- one layer after the other, each as long as the last
 pub own-count : (f : ℕ → ℕ) (n : ℕ) {ys : List ℕ} → ys ≡ build n f → ys ≡ build (length ys) f
@@ -220,37 +179,31 @@ module _ (p : Panel) (d : Display) (mem rom : List ℕ) (r first : ℕ) where
       → (b && d .bits .graphic) ≡ false → l ≡ build n (λ j. glyphDots p d mem rom r (first + j)) → l ≡ build n (λ j. textDots p d mem rom r (first + j))
   plain-text n e i f h = h ∙ build-cong n _ _ (λ j k. text-plain p d mem rom r (first + j) e i f refl)
 
-  pub shown-text : (xs ys : List ℕ) {b : Bool} {zs : List ℕ} → not (d .bits .text) ≡ false → b ≡ isAttribute (d .combination)
-      → (b && d .bits .graphic) ≡ true → ys ≡ build (length xs) (λ j. glyphDots p d mem rom r (first + j))
-      → zs ≡ build (length ys) (λ j. attributed (p .width) (d .phase) (attributeByte d mem (r / 8) (first + j)) (getD ys j 0))
-      → zs ≡ build (length xs) (λ j. textDots p d mem rom r (first + j))
-  shown-text xs ys e i f g h =
-      same-count (λ j. glyphDots p d mem rom r (first + j)) _ xs ys refl g h
-      ∙ build-cong (length xs) _ _
-      (λ j k. text-attributed p d mem rom r (first + j) e i f refl (ap (λ (l : List ℕ). getD l j 0) g ∙ build-at (length xs) (λ j. glyphDots p d mem rom r (first + j)) j 0 k) refl)
+  pub shown-text : (n : ℕ) {b : Bool} {l : List ℕ} → not (d .bits .text) ≡ false → b ≡ isAttribute (d .combination) → (b && d .bits .graphic) ≡ true
+      → l ≡ build n (λ j. attributed (p .width) (d .phase) (attributeByte d mem (r / 8) (first + j)) (glyphDots p d mem rom r (first + j)))
+      → l ≡ build n (λ j. textDots p d mem rom r (first + j))
+  shown-text n e i f h = h ∙ build-cong n _ _ (λ j k. text-attributed p d mem rom r (first + j) e i f refl refl refl)
 
 -- the text given out: the front of the cells
 pub front-of : (f : ℕ → ℕ) (n : ℕ) (xs text : List ℕ) {t : List ℕ} → xs ≡ build n f → length text ≤ n
-    → t ≡ build (length text) (λ j. getD xs j 0) → t ≡ build (length text) f
+    → t ≡ givenTo xs text → t ≡ build (length text) f
 front-of f n xs text e h k =
-    k ∙ build-cong (length text) _ f (λ j l. ap (λ (x : List ℕ). getD x j 0) e ∙ build-at n f j 0 (omega arith))
+    let long : length xs ≡ n = ap length e ∙ build-length n f in
+    k ∙ given-front xs text (omega (arith, long)) ∙ build-cong (length text) _ f (λ j l. ap (λ (x : List ℕ). getD x j 0) e ∙ build-at n f j 0 (omega arith))
 
--- the graphic given out: bytes from an address on, round, their low w bits
-abbrev pub roundByte : ℕ → List ℕ → ℕ → ℕ → ℕ
-roundByte w mem start n = getD mem ((start + n) % 65536) 0 % 2 ^ w
-
-module _ (p : Panel) (d : Display) (mem : List ℕ) (r first n : ℕ) {b : Bool} (i : b ≡ (d .bits .graphic && not (isAttribute (d .combination)))) where
-  pub lit-graphic : {start : ℕ} {l : List ℕ} → b ≡ true → start ≡ addressOf (d .graphic) r first
-      → l ≡ build n (roundByte (p .width) mem start) → l ≡ build n (λ j. graphicDots p d mem r (first + j))
-  lit-graphic {start} e s h =
-      h
-      ∙ build-cong n _ _
+-- the graphic given out
+module _ (p : Panel) (d : Display) (mem : List ℕ) (r first : ℕ) (out : List ℕ) {b : Bool} (i : b ≡ (d .bits .graphic && not (isAttribute (d .combination)))) where
+  pub lit-graphic : {start : ℕ} {l : List ℕ} → b ≡ true → start ≡ addressOf (d .graphic) r first → length mem ≡ 65536
+      → l ≡ readRound (p .width) mem start out → l ≡ build (length out) (λ j. graphicDots p d mem r (first + j))
+  lit-graphic {start} e s whole h =
+      h ∙ round-read (p .width) mem start out whole
+      ∙ build-cong (length out) _ _
       (λ j k.
       let at : (start + j) % 65536 ≡ addressOf (d .graphic) r (first + j) = omega (arith, s) in
       graphic-on p d mem r (first + j) refl (sym i ∙ e) at refl refl)
 
-  pub blank-graphic : {l : List ℕ} → b ≡ false → l ≡ build n (λ j. 0) → l ≡ build n (λ j. graphicDots p d mem r (first + j))
-  blank-graphic e h = h ∙ build-cong n _ _ (λ j k. graphic-off p d mem r (first + j) refl (sym i ∙ e))
+  pub blank-graphic : {l : List ℕ} → b ≡ false → l ≡ build (length out) (λ j. 0) → l ≡ build (length out) (λ j. graphicDots p d mem r (first + j))
+  blank-graphic e h = h ∙ build-cong (length out) _ _ (λ j k. graphic-off p d mem r (first + j) refl (sym i ∙ e))
 
 -- over plain values: graphic off, or attribute mode, and the text stands alone
 alone : (t g : Bool) (k : Combination) (x : ℕ) → (g && not (isAttribute k)) ≡ false → (not t ≡ true → 0 ≡ x) → x ≡ mixed t g k x 0
@@ -261,12 +214,17 @@ alone true true Attribute x e h = refl
 alone true false k x e h = refl
 alone false g k x e h = sym (h refl)
 
--- the graphic mixed with what stands in a list of cells, and what comes of it over the text's dots
-abbrev pub mixedOver : Panel → Display → List ℕ → ℕ → ℕ → List ℕ → ℕ → ℕ
-mixedOver p d mem r first cells n = mixed (d .bits .text) (d .bits .graphic) (d .combination) (getD cells n 0) (graphicDots p d mem r (first + n))
-
-pub over-text : (p : Panel) (d : Display) (mem : List ℕ) (r first : ℕ) {l after : List ℕ} → after ≡ build (length l) (mixedOver p d mem r first l) → GraphicOver p d mem r first l after
-over-text p d mem r first {l} e = λ rom h. e ∙ build-cong (length l) _ _ (λ n k. shown p d mem rom r (first + n) (of-rule _ h k) refl refl)
+-- the graphic mixed with the text's dots
+pub over-text : (p : Panel) (d : Display) (mem : List ℕ) (r first : ℕ) (l : List ℕ) {b : Bool} {start : ℕ} {after : List ℕ} → b ≡ (d .bits .graphic && not (isAttribute (d .combination)))
+    → b ≡ true → start ≡ addressOf (d .graphic) r first → length mem ≡ 65536
+    → after ≡ mixedRound (d .bits .text) (d .bits .graphic) (d .combination) (p .width) mem start l → GraphicOver p d mem r first l after
+over-text p d mem r first l {b} {start} i t s whole e =
+    λ rom h.
+    e ∙ all-mixed (d .bits .text) (d .bits .graphic) (d .combination) (p .width) mem start l whole
+    ∙ build-cong (length l) _ _
+    (λ j k.
+    let at : (start + j) % 65536 ≡ addressOf (d .graphic) r (first + j) = omega (arith, s) in
+    shown p d mem rom r (first + j) (of-rule _ h k) (graphic-on p d mem r (first + j) refl (sym i ∙ t) at refl refl) refl)
 
 pub text-alone : (p : Panel) (d : Display) (mem rom : List ℕ) (r first : ℕ) {b : Bool} {l : List ℕ} → b ≡ (d .bits .graphic && not (isAttribute (d .combination)))
     → b ≡ false → l ≡ build (length l) (λ j. textDots p d mem rom r (first + j))
@@ -279,10 +237,6 @@ text-alone p d mem rom r first {b} {l} i e h = h ∙ build-cong (length l) _ _ (
         alone (d .bits .text) (d .bits .graphic) (d .combination) (textDots p d mem rom r c) (sym i ∙ e)
         (λ o. text-off p d mem rom r c o)
         ∙ ap (λ (g : ℕ). mixed (d .bits .text) (d .bits .graphic) (d .combination) (textDots p d mem rom r c) g) (graphic-off p d mem r c refl (sym i ∙ e))
-
--- an address that goes on from a column
-pub along : (start first n : ℕ) {at : ℕ} → at ≡ (start + first + n) % 65536 → at ≡ (start + (first + n)) % 65536
-along start first n e = omega (arith, e)
 
 -- from the first column on, as many cells as the panel has columns
 pub whole-row : (f : ℕ → ℕ) (n : ℕ) {l : List ℕ} {m : ℕ} → m ≡ n → l ≡ build m (λ j. f (0 + j)) → l ≡ build n f

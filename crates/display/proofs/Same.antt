@@ -5,9 +5,9 @@ use mathlib.Core.Bool.{Bool, true, false, cond, not, _&&_}
 use Prim.Native.Nat.{ℕ, _/_, _%_, _^_}
 use lib.Dec.{ltb}
 use Rattle.state.specs.Attribute.{attributed}
-use Rattle.state.specs.Combination.{isAttribute}
+use Rattle.state.specs.Combination.{isAttribute, mixed}
 use Rattle.display.specs.Types.{Panel, Display}
-use Rattle.display.specs.Displayed.{textCode, glyphRow, textLayer, mixed, glyphDots, textDots, graphicDots, displayedByte}
+use Rattle.display.specs.Displayed.{textCode, glyphRow, textLayer, glyphDots, textDots, graphicDots, displayedByte}
 use Rattle.display.specs.Layers.{layersAt, SameBytes}
 
 -- over plain values

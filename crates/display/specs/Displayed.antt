@@ -4,14 +4,11 @@ use mathlib.Core.List.{List}
 use mathlib.Core.Bool.{Bool, cond, not, _&&_, _||_}
 use lib.Dec.{ltb, leb, eqb}
 use lib.ListN.{getD}
+use Rattle.state.specs.Address.{addressOf}
 use Rattle.state.specs.Halves.{cursorY}
 use Rattle.state.specs.Attribute.{attributed}
-use Rattle.state.specs.Combination.{isAttribute, combined}
-use Rattle.display.specs.Types.{Panel, Plane, Cursor, Display, Combination}
-
--- home + row·area + column, modulo 65,536
-abbrev pub addressOf : Plane → ℕ → ℕ → ℕ
-addressOf q row c = (q .home + row * q .area + c) % 65536
+use Rattle.state.specs.Combination.{isAttribute, mixed}
+use Rattle.display.specs.Types.{Panel, Cursor, Display}
 
 -- text code: the byte at text home + l·text area + c
 unfoldable pub textCode : Display → List ℕ → ℕ → ℕ → ℕ
@@ -52,10 +49,7 @@ unfoldable pub graphicDots : Panel → Display → List ℕ → ℕ → ℕ → 
 graphicDots p d mem r c =
     cond (d .bits .graphic && not (isAttribute (d .combination))) (graphicByte d mem r c % 2 ^ p .width) 0
 
--- both on: combined; one on: that one alone; neither: 0, as a layer that is off has no dots
-abbrev pub mixed : Bool → Bool → Combination → ℕ → ℕ → ℕ
-mixed text graphic k t g = cond text (cond graphic (combined k t g) t) g
-
+-- what text and graphic show together
 unfoldable pub displayedByte : Panel → Display → List ℕ → List ℕ → ℕ → ℕ → ℕ
 displayedByte p d mem rom r c =
     mixed (d .bits .text) (d .bits .graphic) (d .combination) (textDots p d mem rom r c) (graphicDots p d mem r c)

@@ -2,8 +2,8 @@
 use mathlib.Core.Path.{_≡_}
 use mathlib.Core.Logic.{_⊎_}
 use mathlib.Core.List.{List}
-use Prim.Native.Nat.{ℕ, _+_, _^_, _≤_, _<_}
-use lib.ListN.{length, getD}
+use Prim.Native.Nat.{ℕ, _+_, _≤_, _<_}
+use lib.ListN.{length}
 use Rattle.ground.specs.Lists.{build}
 use Rattle.display.specs.Types.{Panel, Display}
 use Rattle.display.specs.Displayed.{textDots, displayedByte, cellByte}
@@ -15,10 +15,6 @@ pub record Drawable (p : Panel) (d : Display) (mem : List ℕ) : Type 0 where
   pub offset : d .offset < 32
   pub height : d .cursor .height ≤ 8
   pub memory : length mem ≡ 65536
-
--- cells that have no dot above their w
-abbrev pub Dotted : ℕ → List ℕ → Type 0
-Dotted w cells = (j : ℕ) → j < length cells → getD cells j 0 < 2 ^ w
 
 -- the graphic over the text's dots, whatever ROM they came from
 abbrev pub GraphicOver : Panel → Display → List ℕ → ℕ → ℕ → List ℕ → List ℕ → Type 0

@@ -3,38 +3,24 @@
 ghost use mathlib.Core.Path.{_≡_};
 ghost use mathlib.Core.Bool.{not, _&&_};
 ghost use mathlib.Core.Logic.{_⊎_};
-ghost use Prim.Native.Nat.{_+_, _/_, _%_, _^_, _≤_};
-ghost use lib.ListN.{length, getD};
+ghost use Prim.Native.Nat.{_+_, _≤_};
+ghost use lib.ListN.{length};
 ghost use Rattle.ground.specs.Lists.{build};
-ghost use Rattle.state.specs.Attribute.{attributed, shadesOf};
 ghost use Rattle.state.specs.Combination.{isAttribute};
-ghost use Rattle.display.specs.Displayed.{attributeByte, glyphDots, textDots, graphicDots};
+ghost use Rattle.display.specs.Displayed.{glyphDots, textDots, graphicDots};
 ghost use Rattle.display.specs.Layers.{layersAt};
 ghost use Rattle.display.specs.Shaded.{Shaded, IsFont};
-ghost use Rattle.display.specs.Drawable.{Drawable, Dotted, GraphicOver};
-use super::cell::address;
-use super::cell::byte_at;
-use super::cell::mix;
-use super::font::give;
-use super::font::look_up;
-use ground::bytes::full;
-use ground::bytes::low;
+ghost use Rattle.display.specs.Drawable.{Drawable, GraphicOver};
+use ground::stretches::clear;
+use ground::stretches::give;
+use ground::stretches::look_up;
+use ground::stretches::read_round;
+use state::attribute::shade;
 use state::attribute::shades;
 use state::combination::is_attribute;
+use state::combination::mix_round;
 use state::panel::Panel;
 use state::registers::Display;
-
-// Bytes of memory from an address on, round, their low dots.
-fn read_round(width: usize, mem: &[u8], start: u16, out: &mut [u8])
-    requires { ⌜ length (now mem) ≡ 65536 ⌝ }
-    ensures { λ _. ⌜ now (out .exit) ≡ build (length (now (out .entry))) (λ j. getD (now (mem .entry)) ((start + j) % 65536) 0 % 2 ^ width) ⌝ }
-{
-    let mut at = start;
-    for j in 0..out.len() {
-        out[j] = low(width, byte_at(mem, at));
-        at = std::num::wrapping_add_u16(at, 1);
-    }
-}
 
 // The glyph rows of the line's codes: first the codes, then what the font has for them.
 fn lay_glyphs(
@@ -50,7 +36,7 @@ fn lay_glyphs(
     requires { ⌜ IsFont display (now mem) (now font) ⌝ }
     ensures { λ _. ⌜ now (cells .exit) ≡ build (length (now (cells .entry))) (λ j. glyphDots panel display (now (mem .entry)) (now (font .entry)) row (column + j)) ⌝ }
 {
-    let at = address(display.text, row / 8, column);
+    let at = display.text.address(row / 8, column);
     read_round(8, mem, at, cells);
     look_up(panel.width, font, row % 8, cells);
 }
@@ -68,41 +54,7 @@ pub(crate) fn tables(panel: Panel, display: Display) -> [u8; 32]
     [0u8; 32]
 }
 
-// The line's attributes over the glyph rows that stand there: of each dot, what its code makes of one that is set or reset.
-fn lay_attributes(
-    panel: Panel,
-    display: Display,
-    mem: &[u8],
-    shades: &[u8],
-    row: usize,
-    column: usize,
-    cells: &mut [u8],
-)
-    requires { ⌜ Drawable panel display (now mem) ⌝ }
-    requires { ⌜ now shades ≡ shadesOf (panel .width) (display .phase) ⌝ }
-    requires { ⌜ Dotted (panel .width) (now cells) ⌝ }
-    ensures { λ _. ⌜ now (cells .exit) ≡ build (length (now (cells .entry))) (λ j. attributed (panel .width) (display .phase) (attributeByte display (now (mem .entry)) (row / 8) (column + j)) (getD (now (cells .entry)) j 0)) ⌝ }
-{
-    let all = full(panel.width);
-    let mut at = address(display.graphic, row / 8, column);
-    for j in 0..cells.len() {
-        let code = (byte_at(mem, at) % 16) as usize;
-        let dots = cells[j];
-        cells[j] = (dots & shades[code]) | ((all - dots) & shades[code + 16]);
-        at = std::num::wrapping_add_u16(at, 1);
-    }
-}
-
-// No dots.
-fn clear(cells: &mut [u8])
-    ensures { λ _. ⌜ now (cells .exit) ≡ build (length (now (cells .entry))) (λ j. 0) ⌝ }
-{
-    for j in 0..cells.len() {
-        cells[j] = 0;
-    }
-}
-
-// The text's dots.
+// The text's dots: the glyph rows, and in attribute mode the line's attributes over them.
 fn lay_text(
     panel: Panel,
     display: Display,
@@ -125,7 +77,8 @@ fn lay_text(
     lay_glyphs(panel, display, mem, font, row, column, cells);
     let combination = display.combination;
     if is_attribute(combination) & display.bits.graphic {
-        lay_attributes(panel, display, mem, shades, row, column, cells);
+        let at = display.graphic.address(row / 8, column);
+        shade(panel.width, mem, at, shades, cells);
     }
 }
 
@@ -151,7 +104,7 @@ fn give_graphic(
     ensures { λ _. ⌜ now (graphic .exit) ≡ build (length (now (graphic .entry))) (λ j. graphicDots panel display (now (mem .entry)) row (column + j)) ⌝ }
 {
     if has_dots(display) {
-        let at = address(display.graphic, row, column);
+        let at = display.graphic.address(row, column);
         read_round(panel.width, mem, at, graphic);
         return;
     }
@@ -171,20 +124,17 @@ fn lay_graphic(
     ensures { λ _. ⌜ GraphicOver panel display (now (mem .entry)) row column (now (cells .entry)) (now (cells .exit)) ⌝ }
 {
     if has_dots(display) {
+        let at = display.graphic.address(row, column);
         let combination = display.combination;
-        let mut at = address(display.graphic, row, column);
-        for j in 0..cells.len() {
-            let text = cells[j];
-            let graphic = low(panel.width, byte_at(mem, at));
-            cells[j] = mix(
-                display.bits.text,
-                display.bits.graphic,
-                combination,
-                text,
-                graphic,
-            );
-            at = std::num::wrapping_add_u16(at, 1);
-        }
+        mix_round(
+            display.bits.text,
+            display.bits.graphic,
+            combination,
+            panel.width,
+            mem,
+            at,
+            cells,
+        );
     }
 }
 

@@ -1,5 +1,5 @@
 // What the panel shows: from a state and the lent memory every dot.
-mod cell;
+mod cursor;
 mod door;
 mod font;
 pub mod frame;

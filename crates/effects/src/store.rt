@@ -9,7 +9,7 @@ use state::registers::Bus;
 use state::registers::Move;
 
 // The byte at an address; 0 behind the memory's end. All 65,536 are there in a run, and the compiler then drops the test.
-fn byte_there(mem: &[u8], address: u16) -> u8
+pub fn byte_there(mem: &[u8], address: u16) -> u8
     ensures { λ r. ⌜ r ≡ getD (now (mem .entry)) address 0 ⌝ }
 {
     let at = address as usize;

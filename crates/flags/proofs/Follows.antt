@@ -12,7 +12,8 @@ use Rattle.ground.proofs.Lists.{build-cong}
 use Rattle.ground.proofs.Tests.{both, both-left, both-right, either}
 use Rattle.state.specs.State.{validPanel, validDisplay, validBus, validRegisters}
 use Rattle.state.proofs.Valid.{panelled}
-use Rattle.display.specs.Displayed.{addressOf, textCode}
+use Rattle.state.specs.Address.{addressOf}
+use Rattle.display.specs.Displayed.{textCode}
 use Rattle.display.specs.Frame.{lentLengths}
 use Rattle.effects.specs.Machine.{Machine, machine}
 use Rattle.controller.specs.Access.{Pair, Step, done, answered, refused, stepOf, replied, accessed, actedOf, accessOf}

@@ -17,7 +17,8 @@ use Rattle.ground.proofs.Tests.{both, both-left, both-right}
 use Rattle.state.specs.State.{validPanel, validRegisters}
 use Rattle.state.specs.Sizes.{rowSize}
 use Rattle.state.proofs.Valid.{panelled}
-use Rattle.display.specs.Displayed.{addressOf, textCode, graphicByte, attributeByte, cellByte, cursorLit, cursorCovers}
+use Rattle.state.specs.Address.{addressOf}
+use Rattle.display.specs.Displayed.{textCode, graphicByte, attributeByte, cellByte, cursorLit, cursorCovers}
 use Rattle.display.specs.Layers.{Layers, fromMemory, SameBytes}
 use Rattle.display.specs.Frame.{rowOf, frameOf, lentLengths, frameFits, replyOf}
 use Rattle.display.proofs.Same.{layers-same}

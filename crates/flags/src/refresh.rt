@@ -1,21 +1,11 @@
 // The flagged rows painted, and the flags cleared.
 ghost use mathlib.Core.Path.{_≡_};
-ghost use lib.ListN.{length};
-ghost use Rattle.flags.specs.Flags.{allClear};
 ghost use Rattle.flags.specs.Follow.{refreshed, refreshOf};
 use display::frame::paint_flagged;
+use ground::stretches::clear;
 use state::panel::Panel;
 use state::registers::Registers;
 use state::reply::Reply;
-
-// All clear.
-fn clear(flags: &mut [u8])
-    ensures { λ _. ⌜ now (flags .exit) ≡ allClear (length (now (flags .entry))) ⌝ }
-{
-    for row in 0..flags.len() {
-        flags[row] = 0;
-    }
-}
 
 // A refusal leaves frame and flags as they were.
 pub fn refresh(

@@ -3,7 +3,7 @@ use mathlib.Core.Path.{_≡_, ap, sym, _∙_}
 use Prim.Native.Nat.{ℕ, _+_, _*_, _/_, _%_}
 use native.Mathlib.Nat.{add-mod, add-mod-mod, mod-add-div, add-mul-mod-self-left, add-mul, mul-assoc}
 
-pub mul-mod : (a b m : ℕ) → a % m * b % m ≡ a * b % m
+mul-mod : (a b m : ℕ) → a % m * b % m ≡ a * b % m
 mul-mod a b m =
     sym
     (ap (λ (n : ℕ). n * b % m) (sym (mod-add-div a m)) ∙ ap (λ (n : ℕ). n % m) (add-mul (a % m) (m * (a / m)) b)

@@ -9,8 +9,9 @@ use lib.ListN.{length, getD}
 use lib.Seq.{ext-getD}
 use borrow.Author.Tests.{leb-true, eq-eqb, ne-eqb}
 use Rattle.ground.specs.Bytes.{wordOf}
-use Rattle.ground.specs.Lists.{build}
+use Rattle.ground.specs.Lists.{build, givenTo}
 use Rattle.ground.proofs.Lists.{build-length, build-at}
+use Rattle.ground.proofs.Passes.{given-whole}
 use Rattle.ground.proofs.Tests.{both-left, both-right}
 use Rattle.image.specs.Types.{Combination, Or, Exor, And, Attribute, Auto, Off, Write, Read, Registers}
 use Rattle.image.specs.Image.{flagByte, combinationByte, combinationIn, autoByte, autoOf, bytesOf, replaced, readable, displayOf, busOf, stateOf, isImage, imageState}
@@ -53,13 +54,14 @@ replaced-same new old e = sym (ap (λ (t : Bool). cond t new old) (eq-eqb (lengt
 pub replaced-other : (new old : List ℕ) → (length old ≡ length new → ⊥) → old ≡ replaced new old
 replaced-other new old e = sym (ap (λ (t : Bool). cond t new old) (ne-eqb (length old) (length new) e))
 
--- copied byte by byte, or not
+-- written, or not
 module _ (r : Registers) (old : List ℕ) where
-  pub copied : {l out : List ℕ} → length old ≡ 25 → l ≡ bytesOf r → out ≡ build 25 (λ i. getD l i 0) → out ≡ replaced (bytesOf r) old
-  copied {l} e h k = k ∙ listed 25 l (ap length h ∙ bytes-length r) ∙ h ∙ replaced-same (bytesOf r) old (e ∙ sym (bytes-length r))
+  pub written : {l out : List ℕ} → length old ≡ 25 → l ≡ bytesOf r → out ≡ givenTo l old → out ≡ replaced (bytesOf r) old
+  written {l} e h k =
+      k ∙ given-whole l old (ap length h ∙ bytes-length r ∙ sym e) ∙ h ∙ replaced-same (bytesOf r) old (e ∙ sym (bytes-length r))
 
-  pub not-copied : (length old ≡ 25 → ⊥) → old ≡ replaced (bytesOf r) old
-  not-copied e = replaced-other (bytesOf r) old (λ h. e (h ∙ bytes-length r))
+  pub not-written : (length old ≡ 25 → ⊥) → old ≡ replaced (bytesOf r) old
+  not-written e = replaced-other (bytesOf r) old (λ h. e (h ∙ bytes-length r))
 
 -- 25 bytes, and others
 module _ (b : List ℕ) where

@@ -3,6 +3,7 @@ ghost use mathlib.Core.Path.{_≡_};
 ghost use lib.ListN.{length};
 ghost use Rattle.image.specs.Image.{flagByte, combinationByte, autoByte, bytesOf, replaced, combinationIn, autoOf, isImage, displayOf, busOf, imageState};
 use ground::bytes::word;
+use ground::stretches::give;
 use state::registers::Auto;
 use state::registers::Bus;
 use state::registers::Combination;
@@ -90,12 +91,9 @@ fn image(registers: Registers) -> [u8; 25]
 pub fn encode(registers: Registers, out: &mut [u8])
     ensures { λ _. ⌜ now (out .exit) ≡ replaced (bytesOf registers) (now (out .entry)) ⌝ }
 {
-    if out.len() != 25 {
-        return;
-    }
-    let bytes = image(registers);
-    for at in 0..25 {
-        out[at] = bytes[at];
+    if out.len() == 25 {
+        let bytes = image(registers);
+        give(&bytes, out);
     }
 }
 

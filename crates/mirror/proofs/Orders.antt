@@ -8,11 +8,10 @@ use lib.Seq.{ext-getD}
 use Rattle.ground.specs.Bytes.{bitOf}
 use Rattle.ground.specs.Lists.{build}
 use Rattle.ground.specs.Packing.{packed}
-use Rattle.ground.proofs.Filling.{Filled, one-more, at-end}
+use Rattle.ground.proofs.Filling.{Filled, one-more, at-end, unwritten}
 use Rattle.ground.proofs.Lists.{build-length, build-at}
 use Rattle.ground.proofs.Packing.{packed-bit}
 use Rattle.ground.proofs.Sixes.{bits}
-use Rattle.display.proofs.Passes.{still}
 use Rattle.mirror.specs.Order.{mirrored}
 
 bit-lt : (n k : ℕ) → bitOf n k < 2
@@ -59,7 +58,7 @@ module _ (l₀ : List ℕ) {l : List ℕ} {n : ℕ} (k : Filled (mirrorAt l₀) 
   -- the byte read is as it was, and is written mirrored
   pub mirrors-one : {b v : ℕ} {t : List ℕ} → n < length l₀ → t ≡ build 256 mirrored → b ≡ getD l n 0 → b < 256 → v ≡ getD t b 0
       → Filled (mirrorAt l₀) l₀ (set l n v) (n + 1)
-  mirrors-one {b} h e i s j = one-more _ _ k h (j ∙ in-mirrors b e s ∙ ap mirrored (i ∙ still (mirrorAt l₀) 0 l₀ (record { filled = k; place = refl }) h))
+  mirrors-one {b} h e i s j = one-more _ _ k h (j ∙ in-mirrors b e s ∙ ap mirrored (i ∙ unwritten (mirrorAt l₀) l₀ k))
 
   pub mirrors-all : length l₀ ≤ n → l ≡ map mirrored l₀
   mirrors-all h = at-end _ _ k (length l₀) refl h ∙ sym (mirrored-list l₀)

@@ -1,3 +1,4 @@
 pub mod Notes
 pub mod Laying
+pub mod Sayings
 pub mod Singly

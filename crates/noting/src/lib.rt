@@ -1,3 +1,4 @@
-// Stores into a stretch of memory entered in a list: one by one, and as a block of data.
+// Stores into a stretch of memory entered in a list: one by one, a command's, and those of a block of data.
 pub mod block;
 pub mod note;
+pub mod say;

@@ -86,7 +86,7 @@ fn single(code: u8) -> usize
 }
 
 // The one byte that a command stored, or none: `was` is the byte there before, `after` the one there now.
-pub fn note_one(
+pub(crate) fn note_one(
     list: &mut [usize],
     count: usize,
     pair: usize,

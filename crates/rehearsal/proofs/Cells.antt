@@ -12,7 +12,8 @@ use Rattle.state.specs.declared.panel.Panel.{Panel}
 use Rattle.state.specs.declared.registers.Cursor.{Cursor}
 use Rattle.state.specs.declared.registers.Display.{Display}
 use Rattle.state.specs.State.{validPanel}
-use Rattle.display.specs.Displayed.{addressOf, cursorLit, cursorCovers, cellByte}
+use Rattle.state.specs.Address.{addressOf}
+use Rattle.display.specs.Displayed.{cursorLit, cursorCovers, cellByte}
 use Rattle.state.specs.Combination.{combined}
 use Rattle.display.specs.Frame.{frameOf}
 use Rattle.display.proofs.Painted.{frame-by-rule}

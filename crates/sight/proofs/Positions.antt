@@ -11,7 +11,7 @@ use Rattle.ground.specs.Lists.{build}
 use Rattle.ground.proofs.Searches.{Passed, each-built, each-joined, first-has, first-none, first-found, build-passed, build-finds, joined-passed, joined-finds}
 use Rattle.sight.specs.Types.{Panel, Plane, Position, At, Nowhere}
 use Rattle.state.specs.State.{validPanel}
-use Rattle.display.specs.Displayed.{addressOf}
+use Rattle.state.specs.Address.{addressOf}
 use Rattle.sight.specs.Position.{positions, standsAt, positionOf, locatedOf}
 
 module _ (p : Panel) (q : Plane) (pointer : ℕ) where

@@ -6,7 +6,8 @@ use Prim.Native.Nat.{ℕ, _+_, _-_, _*_, _<_}
 use Rattle.ground.specs.Lists.{build, stored}
 use Rattle.ground.proofs.Tests.{settled}
 use Rattle.state.specs.Combination.{isAttribute}
-use Rattle.display.specs.Displayed.{addressOf, displayedByte}
+use Rattle.state.specs.Address.{addressOf}
+use Rattle.display.specs.Displayed.{displayedByte}
 use Rattle.effects.specs.Machine.{Machine, machine}
 use Rattle.effects.specs.Effect.{withBus, withLatch, withError}
 use Rattle.sight.specs.Types.{Panel, Plane, Registers, Bus, Position, At, Nowhere}

@@ -6,7 +6,7 @@ use lib.Dec.{eqb}
 use Rattle.ground.specs.Lists.{build, joined, firstOf}
 use Rattle.sight.specs.Types.{Panel, Plane, Position, At, Nowhere}
 use Rattle.state.specs.State.{validPanel}
-use Rattle.display.specs.Displayed.{addressOf}
+use Rattle.state.specs.Address.{addressOf}
 
 -- (r, c), r below 8L and c below C, in reading order
 unfoldable pub positions : Panel → List Position

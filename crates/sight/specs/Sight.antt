@@ -5,7 +5,8 @@ use mathlib.Core.List.{List}
 use Rattle.ground.specs.Lists.{build, stored}
 use Rattle.state.specs.State.{validPanel, validDisplay}
 use Rattle.state.specs.Combination.{isAttribute}
-use Rattle.display.specs.Displayed.{addressOf, displayedByte}
+use Rattle.state.specs.Address.{addressOf}
+use Rattle.display.specs.Displayed.{displayedByte}
 use Rattle.display.specs.Frame.{lentLengths}
 use Rattle.effects.specs.Machine.{Machine, machine, display, bus, onBus}
 use Rattle.effects.specs.Effect.{withBus, withLatch, withError}

@@ -1,5 +1,6 @@
 pub mod Halves
 pub mod LeftOver
+pub mod Rounds
 pub mod Sizes
 pub mod Tables
 pub mod Valid

@@ -1,9 +1,12 @@
 -- 01, A displayed byte: the table of the sixteen attribute codes, and what it does to a glyph row.
-use Prim.Native.Nat.{ℕ, _-_, _%_, _^_}
+use Prim.Native.Nat.{ℕ, _+_, _-_, _%_, _^_}
 use mathlib.Core.List.{List}
 use mathlib.Core.Bool.{Bool, cond, not, _&&_}
 use lib.Dec.{ltb, leb, eqb}
-use Rattle.ground.specs.Lists.{build}
+use lib.Bits.{bitAnd, bitOr}
+use lib.ListN.{length, getD}
+use Rattle.ground.specs.Bytes.{fullOf}
+use Rattle.ground.specs.Lists.{build, roundByte}
 use Rattle.state.specs.Types.{Manner, Normal, Reverse, Inhibit, Look}
 
 -- the table: low three bits 5 reverse, 3 inhibit, else normal; bit 3 blinks (02, Req 04)
@@ -28,3 +31,16 @@ attributed w normal attribute n =
 -- what it makes, in one phase, of w bits that are all set under each of the sixteen codes; then again, of all reset
 abbrev pub shadesOf : ℕ → Bool → List ℕ
 shadesOf w normal = build 32 (λ n. attributed w normal n (cond (ltb n 16) (2 ^ w - 1) 0))
+
+-- n of all dots under a code of such a table: those that are set as it has them of all set, those that are reset as of all reset
+abbrev pub shaded : List ℕ → ℕ → ℕ → ℕ → ℕ
+shaded shades all code n = bitOr (bitAnd n (getD shades code 0)) (bitAnd (all - n) (getD shades (code + 16) 0))
+
+-- w bits of cell j, its code the low four bits of byte j from an address on, round
+abbrev pub shadedAt : ℕ → List ℕ → ℕ → List ℕ → List ℕ → ℕ → ℕ
+shadedAt w mem start shades cells j = shaded shades (fullOf w) (roundByte 4 mem start j) (getD cells j 0 % 2 ^ w)
+
+-- all cells so; another length of memory or table leaves them as they were
+unfoldable pub shadedRound : ℕ → List ℕ → ℕ → List ℕ → List ℕ → List ℕ
+shadedRound w mem start shades cells =
+    cond (eqb (length mem) 65536 && eqb (length shades) 32) (build (length cells) (shadedAt w mem start shades cells)) cells

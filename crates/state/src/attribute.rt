@@ -4,8 +4,9 @@ ghost use mathlib.Core.Bool.{cond, not, _&&_};
 ghost use Prim.Native.Nat.{_^_, _<_, min};
 ghost use Rattle.ground.specs.Bytes.{fullOf};
 ghost use Rattle.ground.specs.Lists.{build};
-ghost use Rattle.state.specs.Attribute.{lookOf, shownAs, shadesOf};
+ghost use Rattle.state.specs.Attribute.{lookOf, shownAs, shadesOf, shadedRound};
 use ground::bytes::full;
+use ground::bytes::low;
 
 // How a glyph row is shown.
 pub enum Manner {
@@ -119,4 +120,21 @@ pub fn shades(width: usize, normal: bool) -> [u8; 32]
         made[n] = look_shows(look, width, normal, all_or_none(width, n < 16));
     }
     made
+}
+
+// Cells of w dots under their attributes, which stand from an address on, round: of each dot what its code makes of one that is set or reset.
+// Another length of memory or table leaves them as they were.
+pub fn shade(width: usize, mem: &[u8], start: u16, table: &[u8], cells: &mut [u8])
+    ensures { λ _. ⌜ now (cells .exit) ≡ shadedRound width (now (mem .entry)) start (now (table .entry)) (now (cells .entry)) ⌝ }
+{
+    if (mem.len() == 65536) & (table.len() == 32) {
+        let all = full(width);
+        let mut at = start;
+        for j in 0..cells.len() {
+            let code = (mem[at as usize] % 16) as usize;
+            let dots = low(width, cells[j]);
+            cells[j] = (dots & table[code]) | ((all - dots) & table[code + 16]);
+            at = std::num::wrapping_add_u16(at, 1);
+        }
+    }
 }

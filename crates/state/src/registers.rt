@@ -1,6 +1,7 @@
 // The registers, in two groups: what decides the picture, and what decides how the next access is taken.
 ghost use mathlib.Core.Path.{_≡_};
 ghost use mathlib.Core.Bool.{true};
+ghost use Rattle.state.specs.Address.{addressOf};
 ghost use Rattle.state.specs.State.{validDisplay, validBus, validRegisters, resetRegisters};
 
 // The home and the area of text or of graphic.
@@ -85,6 +86,18 @@ pub enum Move {
     Up,
     Down,
     Stay,
+}
+
+impl Plane {
+    // Where it has the byte of a row in a column.
+    pub fn address(self, row: usize, column: usize) -> u16
+        ensures { λ r. ⌜ r ≡ addressOf self row column ⌝ }
+    {
+        let down = ((row % 65536) * (self.area as usize) % 65536) as u16;
+        let across = (column % 65536) as u16;
+        let start = std::num::wrapping_add_u16(self.home, down);
+        std::num::wrapping_add_u16(start, across)
+    }
 }
 
 impl Display {

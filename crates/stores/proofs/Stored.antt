@@ -12,7 +12,8 @@ use Rattle.ground.specs.Lists.{build, stored}
 use Rattle.ground.proofs.Lists.{build-length}
 use Rattle.state.specs.Combination.{isAttribute}
 use Rattle.codes.specs.Command.{neededOf, isOff, endsAuto, decodeOf}
-use Rattle.display.specs.Displayed.{addressOf, displayedByte}
+use Rattle.state.specs.Address.{addressOf}
+use Rattle.display.specs.Displayed.{displayedByte}
 use Rattle.effects.specs.Machine.{Machine, machine, onBus}
 use Rattle.effects.specs.Effect.{withBus, withError, isWrite, statusOf}
 use Rattle.sight.specs.Position.{positionOf}

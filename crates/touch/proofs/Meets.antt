@@ -10,7 +10,8 @@ use lib.Dec.{ltb, eqb}
 use lib.ListN.{getD}
 use borrow.Author.Tests.{ltb-true, ltb-false, eqb-true, eqb-false, lt-ltb, le-ltb}
 use Rattle.ground.proofs.Tests.{both, both-right, either}
-use Rattle.display.specs.Displayed.{addressOf, textCode}
+use Rattle.state.specs.Address.{addressOf}
+use Rattle.display.specs.Displayed.{textCode}
 use Rattle.display.specs.Layers.{fromMemory}
 use Rattle.stores.specs.Stores.{fromAddress}
 use Rattle.touch.specs.Types.{Panel, Plane, Display}

@@ -4,7 +4,8 @@ use mathlib.Core.Bool.{Bool, false, cond, _&&_, _||_}
 use mathlib.Core.List.{List}
 use lib.Dec.{eqb}
 use Rattle.state.specs.Combination.{isAttribute}
-use Rattle.display.specs.Displayed.{addressOf, textCode}
+use Rattle.state.specs.Address.{addressOf}
+use Rattle.display.specs.Displayed.{textCode}
 use Rattle.display.specs.Layers.{fromMemory}
 use Rattle.stores.specs.Stores.{fromAddress}
 use Rattle.touch.specs.Types.{Panel, Plane, Combination, Display}

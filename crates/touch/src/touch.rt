@@ -13,14 +13,6 @@ use state::registers::Combination;
 use state::registers::Display;
 use state::registers::Plane;
 
-// Where a row of text begins.
-fn first_of(plane: Plane, row: usize) -> u16
-    ensures { λ r. ⌜ r ≡ (plane .home + row * plane .area) % 65536 ⌝ }
-{
-    let down = ((row % 65536) * (plane.area as usize) % 65536) as u16;
-    std::num::wrapping_add_u16(plane.home, down)
-}
-
 // Two stretches meet where the second begins at most C - 1 before the first one's start, or inside it: so many places.
 fn span(columns: usize, n: usize) -> usize
     requires { ⌜ (0 < columns) × (columns ≤ 80) ⌝ }
@@ -60,7 +52,7 @@ fn search(panel: Panel, display: Display, mem: &[u8], row: usize, at: u16, n: us
 {
     let columns = panel.columns;
     let v = row % 8;
-    let start = first_of(display.text, row / 8);
+    let start = display.text.address(row / 8, 0);
     let mut column: usize = 0;
     while column < columns {
         let from = std::num::wrapping_add_u16(start, column as u16) as usize;

@@ -30,13 +30,14 @@ use Rattle.stores.specs.Stores.{codeStores, storesOf, fromAddress}
 use Rattle.noting.specs.Stretch as stretch
 use Rattle.noting.specs.Stretch.{store, storeAt, storesIn, storeNumbers}
 use Rattle.noting.specs.Noted.{roomOf, capped, Noting, noting, notedBy, notedEach}
+use Rattle.noting.specs.Said.{Says}
 use Rattle.noting.specs.Laid.{laid, datumAt, Lays}
 use Rattle.noting.proofs.Notes.{notes-none, notes-one, capped-least}
 use Rattle.noting.proofs.Singly.{none-below}
 use Rattle.writers.specs.Types.{Panel, Display, Auto, Off, Write, Read, Bus, Registers, Drawn, Listed, Said}
 use Rattle.writers.specs.Listing.{Listing, listing, listBy, listStep, begunList}
 use Rattle.writers.specs.Listed.{ListedAll, listedAll, unlisted, listedOf, listOf}
-use Rattle.writers.specs.Ready.{Says, Behind, behind, behindBy, endedOf}
+use Rattle.writers.specs.Ready.{Behind, behind, behindBy, endedOf}
 use Rattle.writers.proofs.Holds.{Holds, holds-none, holds-all}
 
 -- what is kept: a sound controller

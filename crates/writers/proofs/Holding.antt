@@ -1,50 +1,41 @@
 -- The bytes that a pair stores: held before it, noted behind it.
-use mathlib.Core.Path.{_≡_, refl, ap, subst, _∙_}
-use mathlib.Core.List.{List, [], _∷_, _++_}
-use Prim.Native.Nat.{ℕ, zero, suc, _+_, _<_, _≤_}
+use mathlib.Core.Path.{_≡_, ap, sym, _∙_}
+use mathlib.Core.List.{List, _++_}
+use Prim.Native.Nat.{ℕ, _+_, _-_, _<_, _≤_}
 use native.Mathlib.Omega.{arith}
-use lib.ListN.{length, getD, set}
-use Rattle.ground.specs.Lists.{build}
-use Rattle.ground.proofs.Filling.{Filled, none-yet, one-more, as-long}
+use lib.ListN.{length, getD, take, drop, length-append, length-drop, List·getD-append}
+use lib.Seq.{length-take-le}
+use Rattle.ground.specs.Lists.{build, roundByte, readRound}
 use Rattle.ground.proofs.Lists.{build-length, build-at}
+use Rattle.ground.proofs.Passes.{round-read}
 use Rattle.stores.specs.Stores.{fromAddress}
 use Rattle.noting.specs.Stretch.{Store, store}
 use Rattle.noting.specs.Noted.{Noting, noting, notedBy, notedEach}
 use Rattle.noting.proofs.Notes.{notes-none, notes-more, notes-long}
 use Rattle.writers.specs.Ready.{Held}
 
--- bytes gathered one after the other
-pub held : (mem : List ℕ) (at n : ℕ) {l₀ l : List ℕ} → Filled (λ j. getD mem (fromAddress at j) 0) l₀ l n → Held mem at n l
-held mem at n {l₀} {l} k =
-    record {
-      holds = λ j h. ap (λ (x : List ℕ). getD x j 0) (k .holds)
-          ∙ front (build n (λ j. getD mem (fromAddress at j) 0)) _ j (let e = build-length n (λ j. getD mem (fromAddress at j) 0) in omega (arith, e, h))
-          ∙ build-at n (λ j. getD mem (fromAddress at j) 0) j 0 h;
-    }
+-- bytes read into a list's front
+pub held : (mem : List ℕ) (at n : ℕ) (l : List ℕ) {x : List ℕ} → length mem ≡ 65536 → ((i : ℕ) → getD mem i 0 < 256) → n ≤ length l
+    → x ≡ readRound 8 mem at (take n l) → Held mem at n (x ++ drop n l) × (length l ≡ length (x ++ drop n l))
+held mem at n l {x} whole bytes few e = (
+  record {
+    holds = λ j h.
+        let small = bytes (fromAddress at j) in
+        List·getD-append x (drop n l) 0 j (omega (arith, long, h)) ∙ ap (λ (y : List ℕ). getD y j 0) k
+        ∙ build-at (length (take n l)) (roundByte 8 mem at) j 0 (omega (arith, front, h))
+        ∙ (omega (arith, small));
+  },
+  sym (length-append x (drop n l) ∙ (λ i. long i + length-drop n l i) ∙ (let o : n + (length l - n) ≡ length l = omega arith in o)),
+)
   where
-    front : (xs ys : List ℕ) (j : ℕ) → j < length xs → getD (xs ++ ys) j 0 ≡ getD xs j 0
-    front [] ys j h = absurd (omega arith)
-    front (x ∷ xs) ys zero h = refl
-    front (x ∷ xs) ys (suc j) h = front xs ys j (omega arith)
+    front : length (take n l) ≡ n
+    front = length-take-le n l few
 
--- before byte j of n
-pub record Holding (mem : List ℕ) (at n : ℕ) (l₀ l : List ℕ) (j : ℕ) : Type 0 where
-  pub inside : j ≤ n
-  pub filled : Filled (λ j. getD mem (fromAddress at j) 0) l₀ l j
+    k : x ≡ build (length (take n l)) (roundByte 8 mem at)
+    k = e ∙ round-read 8 mem at (take n l) whole
 
-pub holding : (mem : List ℕ) (at n : ℕ) (l : List ℕ) → Holding mem at n l l 0
-holding mem at n l = record { inside = omega arith; filled = none-yet (λ j. getD mem (fromAddress at j) 0) l }
-
-module _ {mem : List ℕ} {at n : ℕ} {l₀ l : List ℕ} {j : ℕ} (k : Holding mem at n l₀ l j) where
-  pub holding-long : length l ≡ length l₀
-  holding-long = as-long (λ j. getD mem (fromAddress at j) 0) l₀ (k .filled)
-
-  pub holding-on : j < n → n ≤ length l₀ → {a : ℕ} → a ≡ fromAddress at j → Holding mem at n l₀ (set l j (getD mem a 0)) (j + 1)
-  holding-on h m e =
-      record { inside = omega arith; filled = one-more (λ j. getD mem (fromAddress at j) 0) l₀ (k .filled) (omega arith) (ap (λ (x : ℕ). getD mem x 0) e) }
-
-  pub holding-ends : n ≤ j → Held mem at n l
-  holding-ends h = let e : j ≡ n = omega (arith, k .inside) in held mem at n (subst (Filled (λ j. getD mem (fromAddress at j) 0) l₀ l) e (k .filled))
+    long : length x ≡ n
+    long = ap length k ∙ build-length (length (take n l)) (roundByte 8 mem at) ∙ front
 
 -- the stores of a pair, from the bytes before and the memory after
 abbrev pub storesBy : ℕ → ℕ → List ℕ → List ℕ → ℕ → Store

@@ -1,13 +1,11 @@
--- One pair and what it stored: a command told to the bus and the memory, or any pair by a whole access.
+-- Any pair by a whole access, and what it stored.
 use mathlib.Core.Path.{_≡_, refl, ap, sym, subst, _∙_}
-use mathlib.Core.Bool.{Bool, true, false, cond, not, _&&_, _||_, true≢false, false≢true}
+use mathlib.Core.Bool.{Bool, true, false, cond, _||_}
 use mathlib.Core.List.{List}
-use Prim.Native.Nat.{ℕ, _-_, _/_, _≤_}
+use Prim.Native.Nat.{ℕ, _-_, _≤_}
 use native.Mathlib.Omega.{arith}
 use lib.Dec.{eqb}
 use lib.ListN.{getD}
-use borrow.Author.Tests.{eq-eqb, not-true}
-use Rattle.ground.proofs.Tests.{both-left, both-right}
 use Rattle.state.specs.State.{validPanel}
 use Rattle.state.specs.Combination.{isAttribute}
 use Rattle.state.proofs.Valid.{panelled}
@@ -20,13 +18,12 @@ use Rattle.controller.specs.Access.{Pair, Step, done, answered, refused, stepOf
 use Rattle.controller.specs.Ready.{Runs}
 use Rattle.controller.proofs.Readied.{access-runs}
 use Rattle.controller.proofs.Turns.{step-number}
-use Rattle.usual.specs.Ready.{Tells}
 use Rattle.stores.specs.Stores.{copyStores, commandStores, codeStores, storesOf, storesAsked, fromAddress}
 use Rattle.noting.specs.Stretch.{store, storeAt}
-use Rattle.noting.specs.Noted.{Noting, noting, notedEach, SingleNoted}
+use Rattle.noting.specs.Noted.{Noting, noting, notedEach}
 use Rattle.noting.proofs.Notes.{notes-same}
-use Rattle.writers.specs.Types.{Panel, Bus, Registers, Acted, Told}
-use Rattle.writers.specs.Ready.{Held, Says, Behind, behind, behindBy}
+use Rattle.writers.specs.Types.{Panel, Registers, Acted}
+use Rattle.writers.specs.Ready.{Held, Behind, behind, behindBy}
 use Rattle.writers.proofs.Holding.{storesBy}
 
 -- a pair stores at most eighty bytes
@@ -68,37 +65,6 @@ stores-few p v r q = go (eqb (q .kind) 0) (eqb (q .kind) 1)
     go true b = writes (isWrite (r .bus .auto))
     go false true = codes (decodeOf (q .byte))
     go false false = omega arith
-
--- a command told, or left
-module _ {first last pair : ℕ} {b : Bus} {mem : List ℕ} {still : Bool} {k : ℕ} {told : Told} {after : List ℕ}
-    (t : Tells b mem (still && not (eqb (k / 16) 14)) k told after) {count : ℕ} {list : List ℕ} where
-  pub says-done : told .done ≡ true → {was : ℕ} → was ≡ getD mem (b .pointer) 0 → {next : ℕ} {list′ : List ℕ}
-      → SingleNoted first last k (store pair (b .pointer) was (getD after (b .pointer) 0)) (noting count list) (noting next list′)
-      → Says first last pair b mem still k (noting count list) (record { bus = told .bus; count = next; done = true }) after list′
-  says-done d {was} w {next} {list′} n =
-      record {
-        quiet = λ e. both-left still (not (eqb (k / 16) 14)) (t .quiet d);
-        acts = λ e. t .acts d;
-        notes = λ e p s. n .notes other p (record { display = s; bus = b })
-            (storeAt pair (machine (record { display = s; bus = b }) mem) (machine (record { display = s; bus = told .bus }) after))
-            (λ j. store pair (sym here j) (((λ j. getD mem (sym here j) 0) ∙ sym w) j) (getD after (sym here j) 0));
-        keeps = λ e. absurd (true≢false e);
-      }
-    where
-      here : b .pointer ≡ fromAddress (b .pointer) 0
-      here = let low = n .low in omega arith
-
-      other : k / 16 ≡ 14 → ⊥
-      other e = true≢false (sym (eq-eqb (k / 16) 14 e) ∙ not-true (eqb (k / 16) 14) (both-right still (not (eqb (k / 16) 14)) (t .quiet d)))
-
-  pub says-left : told .done ≡ false → Says first last pair b mem still k (noting count list) (record { bus = b; count = count; done = false }) after list
-  says-left d =
-      record {
-        quiet = λ e. absurd (false≢true e);
-        acts = λ e. absurd (false≢true e);
-        notes = λ e. absurd (false≢true e);
-        keeps = λ e. (t .keeps d, refl);
-      }
 
 -- any pair, by a whole access
 module _ {p : Panel} {r : Registers} {mem rom : List ℕ} (k : Runs p r mem rom) (q : Pair) where

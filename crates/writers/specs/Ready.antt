@@ -1,32 +1,20 @@
 -- What inner routines rest on, tested once at the door, and what each of them gives.
 use mathlib.Core.Path.{_≡_}
-use mathlib.Core.Bool.{Bool, true, false, cond}
+use mathlib.Core.Bool.{cond}
 use mathlib.Core.List.{List}
 use Prim.Native.Nat.{ℕ, _<_}
 use lib.Dec.{leb}
 use lib.ListN.{getD}
-use Rattle.codes.specs.Command.{decodeOf, isOff}
-use Rattle.effects.specs.Machine.{Machine, machine}
-use Rattle.controller.specs.Access.{Pair, code, Step, done, answered, refused, stepOf}
-use Rattle.stores.specs.Stores.{codeStores, storesOf, fromAddress}
+use Rattle.effects.specs.Machine.{Machine}
+use Rattle.controller.specs.Access.{Pair, Step, done, answered, refused}
+use Rattle.stores.specs.Stores.{storesOf, fromAddress}
 use Rattle.noting.specs.Stretch.{storeAt}
-use Rattle.noting.specs.Noted.{Noting, noting, notedEach}
-use Rattle.writers.specs.Types.{Panel, Display, Bus, Registers, Listed, Said}
+use Rattle.noting.specs.Noted.{Noting, notedEach}
+use Rattle.writers.specs.Types.{Panel, Registers, Listed}
 
 -- n bytes from an address on
 pub record Held (mem : List ℕ) (at n : ℕ) (bytes : List ℕ) : Type 0 where
   pub holds : (j : ℕ) → j < n → getD bytes j 0 ≡ getD mem (fromAddress at j) 0
-
--- a command done as a step does it, whatever the display, and its store noted; or left, and all is as it was
-pub record Says (first last pair : ℕ) (b : Bus) (mem : List ℕ) (still : Bool) (k : ℕ) (before : Noting) (said : Said) (after list : List ℕ) : Type 0 where
-  pub quiet : said .done ≡ true → still ≡ true
-  pub acts : said .done ≡ true → isOff (b .auto) ≡ true → (p : Panel) (rom : List ℕ) (d : Display)
-      → stepOf p rom (machine (record { display = d; bus = b }) mem) (code k) ≡ done (machine (record { display = d; bus = said .bus }) after)
-  pub notes : said .done ≡ true → (p : Panel) (d : Display)
-      → noting (said .count) list
-      ≡ notedEach first last (storeAt pair (machine (record { display = d; bus = b }) mem) (machine (record { display = d; bus = said .bus }) after))
-      (codeStores p (record { display = d; bus = b }) (decodeOf k)) before
-  pub keeps : said .done ≡ false → (after ≡ mem) × (list ≡ before .list)
 
 -- the controller behind a pair, and the list
 pub record Behind : Type 0 where

@@ -7,7 +7,6 @@ pub use Rattle.state.specs.declared.registers.Pending.{Pending}
 pub use Rattle.state.specs.declared.registers.Bus.{Bus}
 pub use Rattle.state.specs.declared.registers.Registers.{Registers}
 pub use Rattle.state.specs.declared.reply.Acted.{Acted}
-pub use Rattle.usual.specs.declared.tell.Told.{Told}
 pub use Rattle.usual.specs.declared.draw.Drawn.{Drawn}
 pub use Rattle.writers.specs.declared.list.Listed.{Listed}
-pub use Rattle.writers.specs.declared.pair.Said.{Said}
+pub use Rattle.noting.specs.declared.say.Said.{Said}

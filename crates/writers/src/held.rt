@@ -6,6 +6,7 @@ ghost use Rattle.stores.specs.Stores.{fromAddress};
 ghost use Rattle.noting.specs.Stretch.{store};
 ghost use Rattle.noting.specs.Noted.{noting, notedEach};
 ghost use Rattle.writers.specs.Ready.{Held};
+use ground::stretches::read_round;
 use noting::note::note;
 
 // The bytes from an address on, before a pair stores there.
@@ -15,12 +16,7 @@ pub(crate) fn hold(mem: &[u8], at: u16, n: usize) -> [u8; 80]
     ensures { λ r. ⌜ 80 ≡ length r ⌝ }
 {
     let mut bytes = [0u8; 80];
-    let mut j: usize = 0;
-    while j < n {
-        let there = std::num::wrapping_add_u16(at, j as u16);
-        bytes[j] = mem[there as usize];
-        j += 1;
-    }
+    read_round(8, mem, at, &mut bytes[..n]);
     bytes
 }
 

@@ -1,4 +1,6 @@
 -- `compare` meets its contract: the tests at the door, in order, the copy, then both logs.
+use mathlib.Core.Path.{_∙_}
+use Rattle.ground.proofs.Passes.{given-whole}
 use Rattle.comparison.proofs.Verdicts.{compares-0, compares-1, compares-2, compares-valid, compares-lent, compares-alike}
 use borrow.Author.Needs.{needs}
 use Rattle.comparison.proofs.compare.compare.Statement.{statement}
@@ -7,17 +9,14 @@ use Rattle.comparison.proofs.compare.compare.Tie as tie
 valid-requires : tie.Need-valid-requires
 valid-requires c κs = search needs
 
-copy-bytes-requires : tie.Need-copy-bytes-requires
-copy-bytes-requires c κs =
-    let s = c .before .before .before .before .before .before .before .before .before .before .before in
-    let a = s .args in
-    compares-alike (a .panel) (a .one .now) (a .two .now) (a .rom .now) (a .log-one .now) (a .log-two .now) (a .list .now) (c .before .before .before .before .valid .ensures) (c .before .before .before .if1 .taken) (c .before .before .if2 .taken)
+give-requires : tie.Need-give-requires
+give-requires c κs = search needs
 
 run-both-requires : tie.Need-run-both-requires
 run-both-requires c κs =
     let s = c .before .before .before .before .before .before .before .before .before .before .before .before .before .before .before .before .before in
     let a = s .args in
-    (compares-valid (a .panel) (a .one .now) (a .two .now) (a .rom .now) (a .log-one .now) (a .log-two .now) (a .list .now) (c .before .before .before .before .before .before .before .before .before .before .valid .ensures) (c .before .before .before .before .before .before .before .before .before .if1 .taken), compares-lent (a .panel) (a .one .now) (a .two .now) (a .rom .now) (a .log-one .now) (a .log-two .now) (a .list .now) (c .before .before .before .before .before .before .before .before .before .before .valid .ensures) (c .before .before .before .before .before .before .before .before .before .if1 .taken) (c .before .before .before .before .before .before .before .before .if2 .taken), c .before .before .before .before .before .copy-bytes .ensures)
+    (compares-valid (a .panel) (a .one .now) (a .two .now) (a .rom .now) (a .log-one .now) (a .log-two .now) (a .list .now) (c .before .before .before .before .before .before .before .before .before .before .valid .ensures) (c .before .before .before .before .before .before .before .before .before .if1 .taken), compares-lent (a .panel) (a .one .now) (a .two .now) (a .rom .now) (a .log-one .now) (a .log-two .now) (a .list .now) (c .before .before .before .before .before .before .before .before .before .before .valid .ensures) (c .before .before .before .before .before .before .before .before .before .if1 .taken) (c .before .before .before .before .before .before .before .before .if2 .taken), c .before .before .before .before .before .give .ensures ∙ given-whole (a .one .now) (a .two .now) (compares-alike (a .panel) (a .one .now) (a .two .now) (a .rom .now) (a .log-one .now) (a .log-two .now) (a .list .now) (c .before .before .before .before .before .before .before .before .before .before .valid .ensures) (c .before .before .before .before .before .before .before .before .before .if1 .taken) (c .before .before .before .before .before .before .before .before .if2 .taken)))
 
 same-length : tie.Need-same-length
 same-length c = search needs
@@ -57,7 +56,7 @@ compare-spec =
     tie.close
     (tie.spec
     valid-requires
-    copy-bytes-requires
+    give-requires
     run-both-requires
     same-length
     same-length-2

@@ -1,11 +1,8 @@
 -- `font` meets its contract: the bank at the offset, the ROM over its first half if characters are internal.
-use mathlib.Core.Path.{_≡_, refl, ap, sym, _∙_}
+use mathlib.Core.Path.{refl}
 use Prim.Native.Nat.{_+_, _-_, _*_}
 use native.Mathlib.Omega.{arith}
-use lib.ListN.{length}
-use lib.Seq.{length-take-le}
-use Rattle.ground.proofs.Lists.{build-length}
-use Rattle.display.proofs.Fonts.{stretch-at, all-memory, rom-over}
+use Rattle.display.proofs.Fonts.{all-memory, rom-over}
 use borrow.Author.Needs.{needs}
 use Rattle.display.proofs.font.font.Statement.{statement}
 use Rattle.display.proofs.font.font.Tie as tie
@@ -34,30 +31,23 @@ slice-aggregate-give c = search needs
 give-requires : tie.Need-give-requires
 give-requires c κs = search needs
 
-array-borrow-prefix-glyphs : tie.Need-array-borrow-prefix-glyphs
-array-borrow-prefix-glyphs c = search needs
-
 slice-aggregate-give-2 : tie.Need-slice-aggregate-give-2
-slice-aggregate-give-2 c =
-    let l = c .before .before .before .before .give .last .1 .0 in
-    let long : length l ≡ 2048 = ap length (c .before .before .before .before .give .ensures) ∙ build-length 2048 _ in
-    sym (length-take-le 1024 l (omega (arith, long)))
+slice-aggregate-give-2 c = search needs
 
 give-requires-2 : tie.Need-give-requires-2
-give-requires-2 c κs =
-    let l = c .before .before .before .before .give .last .1 .0 in
-    let long : length l ≡ 2048 = ap length (c .before .before .before .before .give .ensures) ∙ build-length 2048 _ in
-    omega (arith, length-take-le 1024 l (omega (arith, long)), c .before .before .before .before .before .before .before .before .before .before .pre .1)
+give-requires-2 c κs = search needs
 
 returns : tie.Need-returns
 returns c =
-    let a = c .before .before .before .before .before .before .before .before .before .before .before .before .args in
-    rom-over (a .display) (a .mem .now) (a .rom .now) (c .before .before .before .before .before .before .give .ensures) refl (λ j h. stretch-at (a .mem .now) (2048 * a .display .offset) (2048 * a .display .offset + 2048 - 2048 * a .display .offset) j (omega arith)) (c .before .before .before .if1 .taken) (c .before .give2 .ensures)
+    let s = c .before .before .before .before .before .before .before .before .before .before .before .before in
+    let a = s .args in
+    rom-over (a .display) (a .mem .now) (a .rom .now) _ (2048 * a .display .offset + 2048 - 2048 * a .display .offset) (c .before .before .before .before .before .before .give .ensures) (omega arith) refl (s .pre .0) (s .pre .2) (c .before .before .before .if1 .taken) (s .pre .1) (c .before .give2 .ensures)
 
 returns-2 : tie.Need-returns-2
 returns-2 c =
-    let a = c .before .before .before .before .before .before .before .before .before .args in
-    all-memory (a .display) (a .mem .now) (a .rom .now) (c .before .before .before .give .ensures) refl (λ j h. stretch-at (a .mem .now) (2048 * a .display .offset) (2048 * a .display .offset + 2048 - 2048 * a .display .offset) j (omega arith)) (c .if1 .left)
+    let s = c .before .before .before .before .before .before .before .before .before in
+    let a = s .args in
+    all-memory (a .display) (a .mem .now) (a .rom .now) _ (2048 * a .display .offset + 2048 - 2048 * a .display .offset) (c .before .before .before .give .ensures) (omega arith) refl (s .pre .0) (s .pre .2) (c .if1 .left)
 
 pub font-spec : {M : Type 1} → statement M
 font-spec =
@@ -71,7 +61,6 @@ font-spec =
     part-give-end
     slice-aggregate-give
     give-requires
-    array-borrow-prefix-glyphs
     slice-aggregate-give-2
     give-requires-2
     returns

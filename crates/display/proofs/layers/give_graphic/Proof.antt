@@ -17,7 +17,7 @@ same-length : tie.Need-same-length
 same-length c = search needs
 
 returns : tie.Need-returns
-returns c = let a = c .before .before .before .before .before .before .before .before .before .args in lit-graphic (a .panel) (a .display) (a .mem .now) (a .row) (a .column) _ (c .before .before .before .before .before .before .has-dots .ensures) (c .before .before .before .before .before .if1 .taken) (c .before .before .before .before .address .ensures) (c .before .before .read-round .ensures)
+returns c = let a = c .before .before .before .before .before .before .before .before .before .args in lit-graphic (a .panel) (a .display) (a .mem .now) (a .row) (a .column) (a .graphic .now) (c .before .before .before .before .before .before .has-dots .ensures) (c .before .before .before .before .before .if1 .taken) (c .before .before .before .before .address .ensures) (c .before .before .before .before .before .before .before .before .before .pre .1) (c .before .before .read-round .ensures)
 
 clear-requires : tie.Need-clear-requires
 clear-requires c κs = search needs
@@ -26,7 +26,7 @@ same-length-2 : tie.Need-same-length-2
 same-length-2 c = search needs
 
 returns-2 : tie.Need-returns-2
-returns-2 c = let a = c .before .before .before .before .before .before .before .before .args in blank-graphic (a .panel) (a .display) (a .mem .now) (a .row) (a .column) _ (c .before .before .before .before .before .has-dots .ensures) (c .before .before .before .before .if1 .left) (c .before .before .clear .ensures)
+returns-2 c = let a = c .before .before .before .before .before .before .before .before .args in blank-graphic (a .panel) (a .display) (a .mem .now) (a .row) (a .column) (a .graphic .now) (c .before .before .before .before .before .has-dots .ensures) (c .before .before .before .before .if1 .left) (c .before .before .clear .ensures)
 
 pub give-graphic-spec : {M : Type 1} → statement M
 give-graphic-spec =

@@ -4,7 +4,7 @@ use mathlib.Core.Bool.{true}
 use lib.ListN.{length}
 use Rattle.ground.proofs.Tests.{both-left}
 use Rattle.state.specs.Combination.{isAttribute}
-use Rattle.display.proofs.Passes.{glyphs-dotted, blank-text, shown-text, plain-text}
+use Rattle.display.proofs.Passes.{attributes-laid, blank-text, shown-text, plain-text}
 use borrow.Author.Needs.{needs}
 use Rattle.display.proofs.layers.lay_text.Statement.{statement}
 use Rattle.display.proofs.layers.lay_text.Tie as tie
@@ -24,19 +24,21 @@ lay-glyphs-requires c κs = search needs
 is-attribute-requires : tie.Need-is-attribute-requires
 is-attribute-requires c κs = search needs
 
-lay-attributes-requires : tie.Need-lay-attributes-requires
-lay-attributes-requires c κs =
-    let s = c .before .before .before .before .before .before .before .before .before .before .before .before .before .before in
-    let e : isAttribute (s .args .display .combination) ≡ true = sym (c .before .before .before .is-attribute .ensures) ∙ both-left _ (s .args .display .bits .graphic) (c .before .if2 .taken) in
-    (s .pre .0, (s .pre .1 .1 .made e, glyphs-dotted (s .args .panel) (s .args .display) (s .args .mem .now) (s .args .font .now) (s .args .row) (s .args .column) (length (s .args .cells .now)) (c .before .before .before .before .before .before .lay-glyphs .ensures)))
+address-requires : tie.Need-address-requires
+address-requires c κs = search needs
+
+shade-requires : tie.Need-shade-requires
+shade-requires c κs = search needs
 
 same-length-2 : tie.Need-same-length-2
 same-length-2 c = search needs
 
 returns-2 : tie.Need-returns-2
 returns-2 c =
-    let a = c .before .before .before .before .before .before .before .before .before .before .before .before .before .before .before .before .before .args in
-    shown-text (a .panel) (a .display) (a .mem .now) (a .font .now) (a .row) (a .column) (a .cells .now) _ (c .before .before .before .before .before .before .before .before .before .before .before .if1 .left) (c .before .before .before .before .before .before .is-attribute .ensures) (c .before .before .before .before .if2 .taken) (c .before .before .before .before .before .before .before .before .before .lay-glyphs .ensures) (c .before .before .lay-attributes .ensures)
+    let s = c .before .before .before .before .before .before .before .before .before .before .before .before .before .before .before .before .before .before in
+    let a = s .args in
+    let e : isAttribute (a .display .combination) ≡ true = sym (c .before .before .before .before .before .before .before .is-attribute .ensures) ∙ both-left _ (a .display .bits .graphic) (c .before .before .before .before .before .if2 .taken) in
+    shown-text (a .panel) (a .display) (a .mem .now) (a .font .now) (a .row) (a .column) (length (a .cells .now)) (c .before .before .before .before .before .before .before .before .before .before .before .before .if1 .left) (c .before .before .before .before .before .before .before .is-attribute .ensures) (c .before .before .before .before .before .if2 .taken) (attributes-laid (a .panel) (a .display) (a .mem .now) (a .font .now) (a .row) (a .column) (a .cells .now) _ (a .shades .now) (s .pre .0 .width) (s .pre .1 .1 .made e) (c .before .before .before .before .address .ensures) (c .before .before .before .before .before .before .before .before .before .before .lay-glyphs .ensures) (s .pre .0 .memory) (c .before .before .shade .ensures))
 
 same-length-3 : tie.Need-same-length-3
 same-length-3 c = search needs
@@ -53,7 +55,8 @@ lay-text-spec =
     returns
     lay-glyphs-requires
     is-attribute-requires
-    lay-attributes-requires
+    address-requires
+    shade-requires
     same-length-2
     returns-2
     same-length-3

@@ -12,8 +12,8 @@ Inv-loop display mem row at n columns v start column₀ column = (column ≤ col
 abbrev μ-loop : tie.MeasureT-loop
 μ-loop display mem row at n columns v start column₀ column = columns - column
 
-first-of-requires : tie.Need-first-of-requires Inv-loop μ-loop
-first-of-requires c κs = search needs
+address-requires : tie.Need-address-requires Inv-loop μ-loop
+address-requires c κs = search needs
 
 loop-holds : tie.Need-loop-holds Inv-loop μ-loop
 loop-holds c = (omega arith, unmet _ _ _ _ _)
@@ -36,7 +36,7 @@ hits-requires c κs = (c .before .before .before .before .before .before .pre .o
 returns : tie.Need-returns Inv-loop μ-loop
 returns c =
     let s = c .before .before .before .before .before .before .before .before in
-    unmet-hit (s .args .panel) _ _ _ _ _ (c .before .before .before .before .before .loop .inv .1) (c .before .before .before .before .loop-test .taken) (c .before .before .before .before .before .before .first-of .ensures) (c .before .before .before .wrapping-add-u16 .ensures) (c .before .hits .ensures) (c .if1 .taken)
+    unmet-hit (s .args .panel) _ _ _ _ _ (c .before .before .before .before .before .loop .inv .1) (c .before .before .before .before .loop-test .taken) (c .before .before .before .before .before .before .address .ensures) (c .before .before .before .wrapping-add-u16 .ensures) (c .before .hits .ensures) (c .if1 .taken)
 
 add-column : tie.Need-add-column Inv-loop μ-loop
 add-column c = search needs
@@ -46,7 +46,7 @@ loop-less c = omega arith
 
 loop-again : tie.Need-loop-again Inv-loop μ-loop
 loop-again c =
-    (omega arith, unmet-on _ _ _ _ _ (c .before .before .before .before .before .loop .inv .1) (c .before .before .before .before .before .before .first-of .ensures) (c .before .before .before .wrapping-add-u16 .ensures) (c .before .hits .ensures) (c .if1 .left))
+    (omega arith, unmet-on _ _ _ _ _ (c .before .before .before .before .before .loop .inv .1) (c .before .before .before .before .before .before .address .ensures) (c .before .before .before .wrapping-add-u16 .ensures) (c .before .hits .ensures) (c .if1 .left))
 
 returns-2 : tie.Need-returns-2 Inv-loop μ-loop
 returns-2 c =
@@ -59,7 +59,7 @@ search-spec =
     (tie.spec
     Inv-loop
     μ-loop
-    first-of-requires
+    address-requires
     loop-holds
     cast-wrapping-add-u16
     wrapping-add-u16-requires

@@ -74,7 +74,7 @@ loop-again-3 : tie.Need-loop-again-3 Inv-loop μ-loop
 loop-again-3 c = follows-idle (c .before .before .before .before .before .before .before .before .loop .inv) (c .before .before .before .before .before .before .before .loop-test .taken) (omega arith) (c .before .before .is-off .ensures) (c .if3 .taken)
 
 say-requires : tie.Need-say-requires Inv-loop μ-loop
-say-requires c κs = memory-long (c .before .before .before .before .before .before .before .before .before .before .loop .inv)
+say-requires c κs = search needs
 
 loop-less-4 : tie.Need-loop-less-4 Inv-loop μ-loop
 loop-less-4 c = omega (arith, c .before .before .before .before .before .before .before .before .before .before .before .before .before .before .before .before .loop-test .taken)
