@@ -135,6 +135,12 @@ module _ (w n : ℕ) (h : n < 2 ^ w) where
       two-ways (lookOf (a % 16 % 16) .blinks && not normal) (lookOf (a % 16 % 16) .shown)
       ∙ ap (λ (m : ℕ). cond (lookOf m .blinks && not normal) 0 (shownAs (lookOf m .shown) w n)) e
 
+-- the dots that are reset
+others : (w n : ℕ) → (w ≡ 6) ⊎ (w ≡ 8) → n < 2 ^ w → (2 ^ w - 1 + 256 - n) % 256 ≡ 2 ^ w - 1 - n
+others w n h l =
+    let few : 2 ^ w ≤ 256 = ⊎-elim (λ (e : w ≡ 6). rw e (omega arith)) (λ (e : w ≡ 8). rw e (omega arith)) h in
+    omega arith
+
 -- glyph rows under their attributes
 module _ (p : Panel) (d : Display) (mem rom : List ℕ) (r first : ℕ) (xs ys shades : List ℕ) {start : ℕ} (w : (p .width ≡ 6) ⊎ (p .width ≡ 8))
     (i : shades ≡ shadesOf (p .width) (d .phase)) (s : start ≡ addressOf (d .graphic) (r / 8) first)
@@ -150,7 +156,8 @@ module _ (p : Panel) (d : Display) (mem rom : List ℕ) (r first : ℕ) (xs ys s
       let at : getD mem ((start + j) % 65536) 0 ≡ a = ap (λ (m : ℕ). getD mem m 0) (omega (arith, s)) in
       let code : a % 16 < 16 = omega arith in
       let few : getD ys j 0 < 2 ^ p .width = rw (glyph-at j h) (glyph-lt p d mem rom r (first + j)) in
-      (λ q. shaded shades (full-low (p .width) w q) (at q % 16) (mod-eq-of-lt few q))
+      (λ q. shaded shades (full-low (p .width) w q) (at q % 16) (getD ys j 0))
+      ∙ ap (λ (n : ℕ). bitOr (bitAnd (getD ys j 0) (getD shades (a % 16) 0)) (bitAnd n (getD shades (a % 16 + 16) 0))) (others (p .width) (getD ys j 0) w few)
       ∙ (λ q. bitOr (bitAnd (getD ys j 0) (all-set (p .width) (d .phase) i (a % 16) code q)) (bitAnd (2 ^ p .width - 1 - getD ys j 0) (all-reset (p .width) (d .phase) i (a % 16) code q)))
       ∙ two-rows (p .width) (getD ys j 0) few (d .phase) a
 

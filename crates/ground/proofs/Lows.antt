@@ -3,9 +3,9 @@ use mathlib.Core.Path.{_≡_, ap, sym, _∙_}
 use mathlib.Core.Logic.{_⊎_, ⊎-elim}
 use Prim.Native.Nat.{ℕ, _-_, _%_, _^_, _≤_, _<_, min}
 use native.Mathlib.Decide.{decLt}
-use native.Mathlib.Nat.{min-eq-left, min-eq-right, mod-eq-of-lt, mod-lt, le-of-lt, lt-of-lt-of-le}
+use native.Mathlib.Nat.{min-eq-left, min-eq-right, mod-eq-of-lt, le-of-lt, lt-of-lt-of-le}
 use native.Mathlib.Omega.{arith}
-use lib.Pow.{pow-mono, pow-pos}
+use lib.Pow.{pow-mono}
 use Rattle.ground.specs.Bytes.{fullOf}
 
 pub full-low : (w : ℕ) → (w ≡ 6) ⊎ (w ≡ 8) → fullOf w ≡ 2 ^ w - 1
@@ -20,7 +20,3 @@ low-byte n w h = go (decLt w 8)
     go (no l) =
         let few : 8 ≤ w = omega arith in
         ap (λ (m : ℕ). n % 2 ^ m) (min-eq-right few) ∙ mod-eq-of-lt h ∙ sym (mod-eq-of-lt (lt-of-lt-of-le h (pow-mono few)))
-
--- low bits are not more than all of them
-pub low-within : (n w : ℕ) → n < 256 → n % 2 ^ w ≤ fullOf w
-low-within n w h = let m = mod-lt n (pow-pos (min w 8)) in omega (arith, low-byte n w h, m)

@@ -2,8 +2,10 @@
 use mathlib.Core.Path.{_≡_, ap, sym, _∙_}
 use mathlib.Core.Bool.{Bool, true, false, cond, _&&_}
 use mathlib.Core.List.{List}
-use Prim.Native.Nat.{ℕ, _+_, _%_, _^_, _<_}
+use Prim.Native.Nat.{ℕ, _+_, _-_, _%_, _^_, _<_}
+use native.Mathlib.Omega.{arith}
 use lib.Dec.{eqb}
+use lib.Bits.{bitAnd, bitOr}
 use lib.ListN.{length, getD, set}
 use borrow.Author.Tests.{eq-eqb, ne-eqb}
 use Rattle.ground.specs.Bytes.{fullOf}
@@ -14,12 +16,15 @@ use Rattle.state.specs.Attribute.{shaded, shadedAt, shadedRound}
 use Rattle.state.specs.Combination.{mixed, mixedRound}
 
 module _ (w : ℕ) (mem : List ℕ) (start : ℕ) (table cells : List ℕ) where
-  pub shades-on : {l : List ℕ} {at n dots all next : ℕ} → Passing (shadedAt w mem start table cells) start cells l at n → n < length cells
-      → dots ≡ getD l n 0 % 2 ^ w → all ≡ fullOf w → next ≡ (at + 1) % 2 ^ 16
-      → Passing (shadedAt w mem start table cells) start cells (set l n (shaded table all (getD mem at 0 % 16) dots)) next (n + 1)
-  shades-on k h d a f =
+  pub shades-on : {l : List ℕ} {at n all next : ℕ} (others : ℕ) → Passing (shadedAt w mem start table cells) start cells l at n → n < length cells
+      → all ≡ fullOf w → (others + getD l n 0) % 2 ^ 8 ≡ all → others < 256 → getD l n 0 < 256 → next ≡ (at + 1) % 2 ^ 16
+      → Passing (shadedAt w mem start table cells) start cells
+      (set l n (bitOr (bitAnd (getD l n 0) (getD table (getD mem at 0 % 16) 0)) (bitAnd others (getD table (getD mem at 0 % 16 + 16) 0)))) next (n + 1)
+  shades-on {l} {at} {n} {all} others k h a e few small f =
+      let o : others ≡ (all + 256 - getD l n 0) % 256 = omega (arith, e) in
       passes-on _ _ _ k h
-      (λ q. shaded table (a q) (getD mem (k .place q) 0 % 16) ((d ∙ ap (λ (m : ℕ). m % 2 ^ w) (still _ _ _ k h)) q)) f
+      ((λ q. bitOr (bitAnd (getD l n 0) (getD table (getD mem at 0 % 16) 0)) (bitAnd (o q) (getD table (getD mem at 0 % 16 + 16) 0)))
+      ∙ (λ q. shaded table (a q) (getD mem (k .place q) 0 % 16) (still _ _ _ k h q))) f
 
   module _ {t : Bool} (e : t ≡ (eqb (length mem) 65536 && eqb (length table) 32)) where
     pub all-shaded : t ≡ true → shadedRound w mem start table cells ≡ build (length cells) (shadedAt w mem start table cells)

@@ -32,13 +32,13 @@ attributed w normal attribute n =
 abbrev pub shadesOf : ℕ → Bool → List ℕ
 shadesOf w normal = build 32 (λ n. attributed w normal n (cond (ltb n 16) (2 ^ w - 1) 0))
 
--- n of all dots under a code of such a table: those that are set as it has them of all set, those that are reset as of all reset
+-- n of all dots under a code of such a table: those that are set as it has them of all set, the others as of all reset
 abbrev pub shaded : List ℕ → ℕ → ℕ → ℕ → ℕ
-shaded shades all code n = bitOr (bitAnd n (getD shades code 0)) (bitAnd (all - n) (getD shades (code + 16) 0))
+shaded shades all code n = bitOr (bitAnd n (getD shades code 0)) (bitAnd ((all + 256 - n) % 256) (getD shades (code + 16) 0))
 
--- w bits of cell j, its code the low four bits of byte j from an address on, round
+-- cell j of w dots, its code the low four bits of byte j from an address on, round
 abbrev pub shadedAt : ℕ → List ℕ → ℕ → List ℕ → List ℕ → ℕ → ℕ
-shadedAt w mem start shades cells j = shaded shades (fullOf w) (roundByte 4 mem start j) (getD cells j 0 % 2 ^ w)
+shadedAt w mem start shades cells j = shaded shades (fullOf w) (roundByte 4 mem start j) (getD cells j 0)
 
 -- all cells so; another length of memory or table leaves them as they were
 unfoldable pub shadedRound : ℕ → List ℕ → ℕ → List ℕ → List ℕ → List ℕ

@@ -6,7 +6,6 @@ ghost use Rattle.ground.specs.Bytes.{fullOf};
 ghost use Rattle.ground.specs.Lists.{build};
 ghost use Rattle.state.specs.Attribute.{lookOf, shownAs, shadesOf, shadedRound};
 use ground::bytes::full;
-use ground::bytes::low;
 
 // How a glyph row is shown.
 pub enum Manner {
@@ -132,8 +131,9 @@ pub fn shade(width: usize, mem: &[u8], start: u16, table: &[u8], cells: &mut [u8
         let mut at = start;
         for j in 0..cells.len() {
             let code = (mem[at as usize] % 16) as usize;
-            let dots = low(width, cells[j]);
-            cells[j] = (dots & table[code]) | ((all - dots) & table[code + 16]);
+            let dots = cells[j];
+            let others = std::num::wrapping_sub_u8(all, dots);
+            cells[j] = (dots & table[code]) | (others & table[code + 16]);
             at = std::num::wrapping_add_u16(at, 1);
         }
     }

@@ -6,7 +6,6 @@ use lib.Dec.{eqb}
 use lib.ListN.{length}
 use borrow.Author.Tests.{eqb-true}
 use Rattle.ground.proofs.Filling.{as-long, at-end}
-use Rattle.ground.proofs.Lows.{low-within}
 use Rattle.ground.proofs.Passes.{Passing, passes-from}
 use Rattle.ground.proofs.Tests.{both-left, both-right}
 use Rattle.state.specs.Attribute.{shadedAt}
@@ -39,23 +38,17 @@ shared-slice-read-code c =
 cast-code-2 : tie.Need-cast-code-2 Inv-loop μ-loop
 cast-code-2 c = search needs
 
-slice-read-low : tie.Need-slice-read-low Inv-loop μ-loop
-slice-read-low c = omega (arith, as-long _ _ (c .before .before .before .loop .inv .filled))
+slice-read-dots : tie.Need-slice-read-dots Inv-loop μ-loop
+slice-read-dots c = omega (arith, as-long _ _ (c .before .before .before .loop .inv .filled))
 
-low-requires : tie.Need-low-requires Inv-loop μ-loop
-low-requires c κs = search needs
+wrapping-sub-u8-requires : tie.Need-wrapping-sub-u8-requires Inv-loop μ-loop
+wrapping-sub-u8-requires c κs = search needs
 
 shared-slice-read-cells : tie.Need-shared-slice-read-cells Inv-loop μ-loop
 shared-slice-read-cells c =
     let a = c .before .before .before .before .before .before .before .before .before .before .before .args in
     let long : length (a .table .now) ≡ 32 = eqb-true (length (a .table .now)) 32 (both-right (eqb (length (a .mem .now)) 65536) _ (c .before .before .before .before .before .before .before .if1 .taken)) in
     omega (arith, long)
-
-sub-cells : tie.Need-sub-cells Inv-loop μ-loop
-sub-cells c =
-    let a = c .before .before .before .before .before .before .before .before .before .before .before .args in
-    let l = c .before .before .before .before .before .loop in
-    omega (arith, c .before .low .ensures, c .before .before .before .before .before .before .full .ensures, low-within _ (a .width) (c .before .before .slice-known2 .given (l .j) .fits))
 
 add-cells : tie.Need-add-cells Inv-loop μ-loop
 add-cells c = omega arith
@@ -81,7 +74,7 @@ loop-less c = omega arith
 loop-again : tie.Need-loop-again Inv-loop μ-loop
 loop-again c =
     let a = c .before .before .before .before .before .before .before .before .before .before .before .before .before .args in
-    shades-on (a .width) (a .mem .now) (a .start) (a .table .now) (a .cells .now) (c .before .before .before .before .before .before .before .loop .inv) (c .before .before .before .before .before .before .loop-test .taken) (c .before .before .before .low .ensures) (c .before .before .before .before .before .before .before .before .full .ensures) (c .wrapping-add-u16 .ensures)
+    shades-on (a .width) (a .mem .now) (a .start) (a .table .now) (a .cells .now) (c .before .before .before .wrapping-sub-u8 .result) (c .before .before .before .before .before .before .before .loop .inv) (c .before .before .before .before .before .before .loop-test .taken) (c .before .before .before .before .before .before .before .before .full .ensures) (c .before .before .before .wrapping-sub-u8 .ensures) (omega arith) (c .before .before .before .before .slice-known2 .given (c .before .before .before .before .before .before .before .loop .j) .fits) (c .wrapping-add-u16 .ensures)
 
 same-length : tie.Need-same-length Inv-loop μ-loop
 same-length c = as-long _ _ (c .before .loop .inv .filled)
@@ -103,10 +96,9 @@ shade-spec =
     cast-code
     shared-slice-read-code
     cast-code-2
-    slice-read-low
-    low-requires
+    slice-read-dots
+    wrapping-sub-u8-requires
     shared-slice-read-cells
-    sub-cells
     add-cells
     shared-slice-read-cells-2
     slice-write-cells
