@@ -4,7 +4,7 @@ ghost use Rattle.codes.specs.Command.{needed_of, ends_auto, is_off};
 
 use state::registers::{Auto, Combination, DisplayBits, Move, Target};
 
-#[derive(Drop)]
+#[derive(Clone, Copy)]
 pub enum Command {
     Set(Target),
     // external, combination

@@ -7,7 +7,7 @@ use super::command::Command;
 use state::registers::{Auto, Combination, DisplayBits, Move, Target};
 
 // A code is a command, or undefined.
-#[derive(Drop)]
+#[derive(Clone, Copy)]
 pub enum Decoded {
     Defined(Command),
     Undefined,

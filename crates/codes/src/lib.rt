@@ -1,3 +1,5 @@
 // The command codes, taken apart.
+#![tactic(auto)]
+
 pub mod command;
 pub mod decode;

@@ -1,3 +1,4 @@
+use Rattle.std.proofs.Common.{zero}
 -- A run pair by pair, over any step and any property that it keeps: what is left from here comes to the whole.
 use mathlib.Core.Path.{◌≡◌, refl, ap, sym, subst, ◌∙◌}
 use mathlib.Core.Bool.{Bool, true, false, cond}
@@ -85,6 +86,7 @@ module _ {M : Type 0} where
             → Kept P (after_turn o (λ t. run_from step (suc k) qs t) (λ n. record { standing = s; taken = k; end = short n }))
         go (went t) goes a b f = f t a.0 b
         go (halted (suc n)) stops a b f = record { sound = h; within = l; ends = cut }
+        go (halted zero) x8 a b f = elim x8 [ ]
 
     pub going : (log : List ℕ) (total : ℕ) (s₀ : Standing M) → P s₀.machine → Going step P log total s₀ s₀ 0
     going log total s₀ k =

@@ -192,6 +192,7 @@ module _ {p : Panel} {on : Bool} {rom log : List ℕ} {total : ℕ} {s₀ : Stan
               → Running p on rom log total s₀ (standing y.turned.registers y.memory y.answers y.turned.given) u.skips u.noted.listed (i + 1)
           go (went _) y u takes z w = record { goes_on = going-went steps Kind (skip-sound p rom on _) g.goes_on h l w }
           go (halted (suc n)) y u ends z w = absurd (let q : ⊥ = omega arith in q)
+          go (halted zero) y u x6 z w = elim x6 [ ]
 
       -- a pair that stops the run
       pub going-stops : (x.number ≡ 0 → ⊥)
@@ -205,6 +206,7 @@ module _ {p : Panel} {on : Bool} {rom log : List ℕ} {total : ℕ} {s₀ : Stan
               ≡ ran_on_of (run_from steps 0 (take total (pairs_of log)) s₀)
           go (went _) y u takes z w = absurd (z refl)
           go (halted (suc n)) y u ends z w = ap ran_on_of (going-halts steps Kind (skip-sound p rom on _) g.goes_on h l w)
+          go (halted zero) y u x6 z w = elim x6 [ ]
 
   -- a block of data in auto write
   pub going-block : {b : Bool} → b ≡ is_write s.machine.registers.bus.auto → (eqb (get_or log (2 * i) 0) 0 && b) ≡ true

@@ -2,7 +2,7 @@
 use mathlib.Core.Path.{◌≡◌, refl, ap, sym, ◌∙◌}
 use mathlib.Core.Bool.{Bool, true, false, cond, ◌&&◌}
 use mathlib.Core.List.{List, [], ◌∷◌, ◌++◌}
-use Prim.Native.Nat.{ℕ, zero, suc, ◌+◌, ◌-◌, ◌*◌, ◌/◌, ◌%◌, ◌≤◌}
+use Prim.Native.Nat.{ℕ, zero, suc, ◌+◌, ◌*◌, ◌/◌, ◌%◌, ◌≤◌}
 use native.Mathlib.Omega.{arith}
 use lib.Dec.{eqb, eqb-suc-zero}
 use lib.ListN.{length, take, drop, length-take, length-drop, take-append-drop}
@@ -13,7 +13,7 @@ use Rattle.state.specs.State.{valid_panel, valid_registers}
 use Rattle.display.specs.Frame.{lent_lengths}
 use Rattle.controller.specs.Types.{Panel, Registers}
 use Rattle.controller.specs.Access.{Pair, step_of}
-use Rattle.effects.specs.Machine.{Machine, machine}
+use Rattle.effects.specs.Machine.{Machine}
 use Rattle.controller.specs.Run.{pairs_of, Standing, End, whole, short, Run, run_from, end_number, RanAll, ran_all, ran_of, ran_none, stopping_of}
 use Rattle.controller.specs.Ready.{standing}
 use Rattle.controller.specs.Split.{continued, second_run, Split}
@@ -71,6 +71,7 @@ whole-by-number {M} e k z = go e.end k z
     go : (x : End) → Ends x → end_number x ≡ 0 → ◌≡◌ {A = Run M} (record { standing = e.standing; taken = e.taken; end = x }) (ended e.standing e.taken)
     go whole all h = refl
     go (short (suc n)) cut h = absurd (let y : ⊥ = omega arith in y)
+    go (short zero) x5 h = elim x5 [ ]
 
 -- the reply of a run that went on from n pairs, behind other answers
 pub went_on : (n : ℕ) (front : List ℕ) (e : Run Machine) → Ends e.end
@@ -85,6 +86,7 @@ went_on n front e k = go e.end k
         ap
         (λ (t : Bool). ran_all (record { number = suc z; place = cond t 0 (n + e.taken); taken = n + e.taken; answers = length front + e.standing.given; registers = e.standing.machine.registers }) e.standing.machine.memory (front ++ e.standing.answers))
         (sym (eqb-suc-zero z))
+    go (short zero) x4 = elim x4 [ ]
 
 module _ (p : Panel) (r : Registers) (mem rom log answers : List ℕ) (n m : ℕ) (v : (valid_panel p && valid_registers r) ≡ true) (l : lent_lengths mem rom ≡ true) (e : length log % 2 ≡ 0) where
   abbrev first_run : Run Machine

@@ -13,7 +13,7 @@ use Rattle.state.specs.State.{valid_panel, valid_registers}
 use Rattle.display.specs.Frame.{lent_lengths}
 use Rattle.controller.specs.Types.{Panel, Registers}
 use Rattle.controller.specs.Access.{Pair, Step, step_of}
-use Rattle.effects.specs.Machine.{Machine, machine}
+use Rattle.effects.specs.Machine.{Machine}
 use Rattle.controller.specs.Run.{pairs_of, Standing, Run, run_from, end_number, RanAll, ran_of}
 use Rattle.controller.specs.Skip.{Skipping, skip_step, begun_on, RanOnAll, ran_on_of, ran_on_none, either_run, run_of, later}
 use Rattle.controller.specs.Split.{continued}

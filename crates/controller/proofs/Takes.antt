@@ -80,7 +80,7 @@ module _ (p : Panel) (rom : List ℕ) where
         → Takes (step_of p rom) (datum a ∷ datum b ∷ code k ∷ []) (resting d pointer latch error mem)
         (resting (set_of t a b (resting d pointer latch error mem).registers).display (set_of t a b (resting d pointer latch error mem).registers).bus.pointer latch error mem)
     word-taken t k a b h =
-        takes-both {ps = datum a ∷ []} (takes_one refl) (takes-both {ps = datum b ∷ []} (takes_one refl) (takes_one (ap (command_of p rom _) h ∙ sets t)))
+        takes-both {ps = datum a ∷ []} (takes_one refl) (takes-both {ps = datum b ∷ []} (takes_one refl) (takes_one (ap (command_of p rom (machine (record { display = d; bus = record { pointer = pointer; auto = Off; pending = record { count = 2; older = a; newest = b }; latch = latch; error = error } }) mem)) h ∙ sets t)))
       where
         sets : (t : Target)
             → command_of p rom
@@ -97,21 +97,21 @@ module _ (p : Panel) (rom : List ℕ) where
 
     pub mode-taken : (k : ℕ) {e : Bool} {q : Combination} → decode_of k ≡ Defined (Mode e q)
         → Takes (step_of p rom) (code k ∷ []) (resting d pointer latch error mem) (resting (with_mode d e q) pointer latch error mem)
-    mode-taken k h = takes_one (ap (command_of p rom _) h)
+    mode-taken k h = takes_one (ap (command_of p rom (resting d pointer latch error mem)) h)
 
     pub show-taken : (k : ℕ) {b : DisplayBits} → decode_of k ≡ Defined (DisplayMode b)
         → Takes (step_of p rom) (code k ∷ []) (resting d pointer latch error mem) (resting (with_display_bits d b) pointer latch error mem)
-    show-taken k h = takes_one (ap (command_of p rom _) h)
+    show-taken k h = takes_one (ap (command_of p rom (resting d pointer latch error mem)) h)
 
     pub height-taken : (k : ℕ) {h : ℕ} → decode_of k ≡ Defined (Height h)
         → Takes (step_of p rom) (code k ∷ []) (resting d pointer latch error mem)
         (resting (with_cursor d (record { x = d.cursor.x; y = d.cursor.y; height = h })) pointer latch error mem)
-    height-taken k h = takes_one (ap (command_of p rom _) h)
+    height-taken k h = takes_one (ap (command_of p rom (resting d pointer latch error mem)) h)
 
     pub bit-taken : (k : ℕ) {on : Bool} {n : ℕ} → decode_of k ≡ Defined (Bit on n)
         → Takes (step_of p rom) (code k ∷ []) (resting d pointer latch error mem)
         (resting d pointer latch error (set mem pointer (with_bit (get_or mem pointer 0) n on)))
-    bit-taken k h = takes_one (ap (command_of p rom _) h)
+    bit-taken k h = takes_one (ap (command_of p rom (resting d pointer latch error mem)) h)
 
     write-taken : Takes (step_of p rom) (code 0xb0 ∷ []) (resting d pointer latch error mem) (writing d pointer latch error mem)
     write-taken = takes_one refl

@@ -1,3 +1,4 @@
+use Rattle.std.proofs.Common.{zero}
 -- One turn of a run: which steps answer, that a refusal's number is 3 to 7, and what the code's turn comes to.
 use mathlib.Core.Path.{◌≡◌, refl, ap, sym, subst, ◌∙◌}
 use mathlib.Core.Logic.{◌⊎◌, inl, inr}
@@ -85,10 +86,14 @@ module _ (p : Panel) (rom : List ℕ) (s : Machine) where
       by-answering : (o : Step Machine) → Answering s o → o ≡ refused n → (3 ≤ n) × (n ≤ 7)
       by-answering (refused (suc m)) (declines many few) f = let g : suc m ≡ n = ap refusal_of f in (omega arith, omega arith)
       by-answering (answered x c) answers f = let g : ◌≡◌ {A = ℕ} 0 1 = ap kind_of f in absurd (let y : ⊥ = omega arith in y)
+      by-answering (done _) x3 f = elim x3 [ ]
+      by-answering (refused zero) x6 f = elim x6 [ ]
 
       by-acting : (o : Step Machine) → Acting o → o ≡ refused n → (3 ≤ n) × (n ≤ 7)
       by-acting (refused (suc m)) (refuses many few) f = let g : suc m ≡ n = ap refusal_of f in (omega arith, omega arith)
       by-acting (done x) acts f = let g : ◌≡◌ {A = ℕ} 0 1 = ap kind_of f in absurd (let y : ⊥ = omega arith in y)
+      by-acting (answered _ _) x4 f = elim x4 [ ]
+      by-acting (refused zero) x5 f = elim x5 [ ]
 
       go : (t : Bool) → (eqb k 2 || eqb k 3) ≡ t → (3 ≤ n) × (n ≤ 7)
       go true h = by-answering _ (step-answering k b h) e
@@ -114,6 +119,8 @@ module _ (r : Registers) (m answers₀ : List ℕ) (given : ℕ) {a : Acted} {m'
       ∙ ap
       (λ (t : Bool). turned_all (cond t (record { number = 0; registers = r; given = given }) (record { number = suc n; registers = r; given = given })) m answers₀)
       (eqb-suc-zero n)
+  turn-taken (answered _ _) x7 e h = elim x7 [ ]
+  turn-taken (refused zero) x9 e h = elim x9 [ ]
 
   -- a read
   pub turn-answered : (o : Step Machine) → Answering (machine r m) o → replied a m' ≡ acted_of r m o → {x : Turned} {b : List ℕ}
@@ -140,6 +147,8 @@ module _ (r : Registers) (m answers₀ : List ℕ) (given : ℕ) {a : Acted} {m'
     where
       go : Bool → AnsweredAll
       go u = cond u (answered_all (record { number = 0; registers = r; given = given + 1 }) (set answers₀ given 0)) (answered_all (record { number = 13; registers = r; given = given }) answers₀)
+  turn-answered (done _) x6 e {b = b} h = elim x6 [ ]
+  turn-answered (refused zero) x11 e {b = b} h = elim x11 [ ]
 
 -- inside a run a turn is its step's
 pub turned-runs : {p : Panel} {r : Registers} {mem rom : List ℕ} → Runs p r mem rom → (answers₀ : List ℕ) (given k b : ℕ)

@@ -1,3 +1,5 @@
 // The run of a log.
+#![tactic(auto)]
+
 pub mod run;
 mod turn;

@@ -19,7 +19,7 @@ use usual::part::{datum, emptied, freed, ticked};
 use usual::tell::tell;
 
 // A number and place, the pairs taken, the answers written, the registers after.
-#[derive(Drop)]
+#[derive(Clone, Copy)]
 pub struct Ran {
     pub number: u8,
     pub place: usize,
@@ -29,7 +29,7 @@ pub struct Ran {
 }
 
 // A run that goes on after a refusal: what a run answers, and the pairs listed.
-#[derive(Drop)]
+#[derive(Clone, Copy)]
 pub struct RanOn {
     pub ran: Ran,
     pub skipped: usize,

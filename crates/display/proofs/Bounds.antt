@@ -1,7 +1,7 @@
 -- The layers have 0 above their w bits.
 use mathlib.Core.List.{List}
 use mathlib.Core.Bool.{◌&&◌, not}
-use mathlib.Core.Logic.{◌⊎◌, ⊎_elim}
+use mathlib.Core.Logic.{⊎_elim}
 use Prim.Native.Nat.{ℕ, ◌^◌, ◌<◌, ◌≤◌}
 use native.Mathlib.Nat.{mod-lt}
 use native.Mathlib.Omega.{arith}

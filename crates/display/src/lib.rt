@@ -1,4 +1,6 @@
 // What the panel shows: from a state and the lent memory every dot.
+#![tactic(auto)]
+
 mod cursor;
 mod door;
 mod font;

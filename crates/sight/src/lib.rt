@@ -1,4 +1,6 @@
 // What the controller sees of its own panel: a cell's layers, the pointer's position, peek and copy.
+#![tactic(auto)]
+
 pub mod copy;
 mod door;
 mod line;

@@ -9,7 +9,7 @@ use state::panel::Panel;
 use state::registers::Display;
 
 // Up to 80 bytes, and how many.
-#[derive(Drop)]
+#[derive(Clone, Copy)]
 pub(crate) struct Line {
     pub bytes: [u8; 80],
     pub count: usize,

@@ -6,7 +6,7 @@ use state::panel::Panel;
 use state::registers::Plane;
 
 // A dot row and a column, or none.
-#[derive(Drop)]
+#[derive(Clone, Copy)]
 pub enum Position {
     At(usize, usize),
     Nowhere,

@@ -7,7 +7,7 @@ use state::panel::Panel;
 use state::registers::Display;
 
 // A number, its place 0, and the low w bits of text, of graphic and of what comes of them, without cursor; 0 where it was refused.
-#[derive(Drop)]
+#[derive(Clone, Copy)]
 pub struct Seen {
     pub number: u8,
     pub place: usize,

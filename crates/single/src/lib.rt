@@ -1,2 +1,4 @@
 // A single access.
+#![tactic(auto)]
+
 pub mod access;

@@ -1,4 +1,4 @@
--- 01, The panel: R bytes a dot row, 8·L dot rows, C-as-L cells.
+-- 01, The panel: R bytes a dot row, 8·L dot rows, C·L cells.
 use Rattle.std.specs.Prelude.{ℕ, ◌*◌, Bool, cond, List, length, ◌==◌}
 use Rattle.ground.specs.Packing.{row_bytes}
 use Rattle.state.specs.Types.{Panel}

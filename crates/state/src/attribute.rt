@@ -7,7 +7,7 @@ ghost use Rattle.state.specs.Attribute.{look_of, shown_as, shades_of, shaded_rou
 use ground::bytes::full;
 
 // How a glyph row is shown.
-#[derive(Drop)]
+#[derive(Clone, Copy)]
 pub enum Manner {
     Normal,
     Reverse,
@@ -15,7 +15,7 @@ pub enum Manner {
 }
 
 // What the table has for an attribute code.
-#[derive(Drop)]
+#[derive(Clone, Copy)]
 pub struct Look {
     pub shown: Manner,
     pub blinks: bool,

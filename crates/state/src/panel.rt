@@ -5,7 +5,7 @@ ghost use Rattle.state.specs.Halves.{cursor_y};
 ghost use Rattle.state.specs.Sizes.{row_size, frame_size, cell_count, valid_size};
 
 // C columns, L character lines, cells of w dots; dual where it is scanned in two halves.
-#[derive(Drop)]
+#[derive(Clone, Copy)]
 pub struct Panel {
     pub columns: usize,
     pub lines: usize,
@@ -46,7 +46,7 @@ impl Panel {
         }
     }
 
-    // C.L, the text plane's bytes.
+    // C·L, the text plane's bytes.
     pub fn cell_count(self) -> usize
         ensures value { result ≡ valid_size self (cell_count self) }
         ensures upper_bound { result ≤ 2560 }

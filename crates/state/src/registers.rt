@@ -4,13 +4,13 @@ ghost use Rattle.state.specs.Address.{address_of};
 ghost use Rattle.state.specs.State.{valid_display, valid_bus, valid_registers, reset_registers};
 
 // The home and the area of text or of graphic.
-#[derive(Drop)]
+#[derive(Clone, Copy)]
 pub struct Plane {
     pub home: u16,
     pub area: u8,
 }
 
-#[derive(Drop)]
+#[derive(Clone, Copy)]
 pub struct Cursor {
     pub x: u8,
     pub y: u8,
@@ -18,7 +18,7 @@ pub struct Cursor {
 }
 
 // The four display bits.
-#[derive(Drop)]
+#[derive(Clone, Copy)]
 pub struct DisplayBits {
     pub graphic: bool,
     pub text: bool,
@@ -26,7 +26,7 @@ pub struct DisplayBits {
     pub blink: bool,
 }
 
-#[derive(Drop)]
+#[derive(Clone, Copy)]
 pub enum Combination {
     Or,
     Exor,
@@ -35,7 +35,7 @@ pub enum Combination {
 }
 
 // All that decides what the panel shows. The phase is true where it is normal, false where it is off.
-#[derive(Drop)]
+#[derive(Clone, Copy)]
 pub struct Display {
     pub text: Plane,
     pub graphic: Plane,
@@ -47,7 +47,7 @@ pub struct Display {
     pub phase: bool,
 }
 
-#[derive(Drop)]
+#[derive(Clone, Copy)]
 pub enum Auto {
     Off,
     Write,
@@ -55,7 +55,7 @@ pub enum Auto {
 }
 
 // The last data written, 0 to 2 of them: one alone stands in newest, and a place that is not used holds 0.
-#[derive(Drop)]
+#[derive(Clone, Copy)]
 pub struct Pending {
     pub count: u8,
     pub older: u8,
@@ -63,7 +63,7 @@ pub struct Pending {
 }
 
 // All that decides how the next access is taken. `auto` comes first and makes it ten bytes: one of eight is carried about as a single number.
-#[derive(Drop)]
+#[derive(Clone, Copy)]
 pub struct Bus {
     pub auto: Auto,
     pub pointer: u16,
@@ -72,14 +72,14 @@ pub struct Bus {
     pub error: bool,
 }
 
-#[derive(Drop)]
+#[derive(Clone, Copy)]
 pub struct Registers {
     pub display: Display,
     pub bus: Bus,
 }
 
 // What the two data of a command set.
-#[derive(Drop)]
+#[derive(Clone, Copy)]
 pub enum Target {
     Cursor,
     Offset,
@@ -91,7 +91,7 @@ pub enum Target {
 }
 
 // How the pointer moves after a store or a load.
-#[derive(Drop)]
+#[derive(Clone, Copy)]
 pub enum Move {
     Up,
     Down,

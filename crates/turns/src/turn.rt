@@ -6,7 +6,7 @@ use state::registers::Registers;
 use state::reply::Acted;
 
 // One pair of a run: the registers after, the answers so far, a number. The registers come first: a copy then begins where they were stored.
-#[derive(Drop)]
+#[derive(Clone, Copy)]
 pub struct Turned {
     pub registers: Registers,
     pub given: usize,

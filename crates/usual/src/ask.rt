@@ -7,7 +7,7 @@ use effects::store::fetch;
 use state::registers::{Bus, Move};
 
 // A read done, or left: the bus then, the answers so far.
-#[derive(Drop)]
+#[derive(Clone, Copy)]
 pub struct Asked {
     pub bus: Bus,
     pub given: usize,

@@ -7,7 +7,7 @@ use effects::effect::with_mode;
 use state::registers::{Combination, Display, DisplayBits};
 
 // A command of the display alone, done or left as it was.
-#[derive(Drop)]
+#[derive(Clone, Copy)]
 pub struct Drawn {
     pub display: Display,
     pub done: bool,

@@ -8,7 +8,7 @@ use ground::bytes::word;
 use state::registers::{Auto, Bus, Move, Pending};
 
 // A command of the bus alone, done or left as it was.
-#[derive(Drop)]
+#[derive(Clone, Copy)]
 pub struct Told {
     pub bus: Bus,
     pub done: bool,

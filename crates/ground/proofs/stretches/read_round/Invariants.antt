@@ -1,0 +1,7 @@
+-- `read_round` meets its contract: byte by byte, the address going on, or nothing.
+use Rattle.ground.specs.Lists.{round_byte}
+use Rattle.ground.proofs.Passes.{Passing}
+use Rattle.ground.proofs.stretches.read_round.Given as goal
+
+abbrev pub invariant-loop-j : goal.invariant-loop-j
+invariant-loop-j l = Passing (round_byte l.width l.mem l.start) l.start l.initial.out l.out l.at l.j
