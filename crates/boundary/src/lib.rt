@@ -1,2 +1,4 @@
 // The controller for C: numbers and slices, the registers as bytes.
+#![tactic(auto)]
+
 pub mod exports;

@@ -1,4 +1,6 @@
 // Which rows changed: a flag for each dot row beside the memory.
+#![tactic(auto)]
+
 pub mod follow;
 pub mod refresh;
 mod same;

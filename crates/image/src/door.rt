@@ -7,7 +7,7 @@ use state::panel::Panel;
 use state::registers::Registers;
 
 // The registers that stand in a buffer, or the number of a refusal.
-#[derive(Drop)]
+#[derive(Clone, Copy)]
 pub enum Entry {
     State(Registers),
     Refused(u8),

@@ -9,7 +9,7 @@ use ground::bytes::lesser;
 use turns::block::block;
 
 // So many data taken, the entries needed then.
-#[derive(Drop)]
+#[derive(Clone, Copy)]
 pub struct Laid {
     pub pairs: usize,
     pub count: usize,

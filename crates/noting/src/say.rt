@@ -8,7 +8,7 @@ use state::registers::Bus;
 use usual::tell::tell;
 
 // A command done or left: the bus and the entries needed then.
-#[derive(Drop)]
+#[derive(Clone, Copy)]
 pub struct Said {
     pub bus: Bus,
     pub count: usize,

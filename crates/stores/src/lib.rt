@@ -1,2 +1,4 @@
 // Which bytes a pair stores.
+#![tactic(auto)]
+
 pub mod stores;

@@ -1,2 +1,4 @@
 // Which rows some addresses touch.
+#![tactic(auto)]
+
 pub mod touch;

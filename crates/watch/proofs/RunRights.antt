@@ -4,7 +4,7 @@ use lib.Seq.{sets}
 use Rattle.ground.proofs.Tests.{both_left, both_right}
 use Rattle.state.specs.State.{valid_panel, valid_registers}
 use Rattle.display.specs.Frame.{lent_lengths}
-use Rattle.effects.specs.Machine.{Machine, machine}
+use Rattle.effects.specs.Machine.{Machine}
 use Rattle.controller.specs.Access.{Pair, Step, done, answered, refused, step_of}
 use Rattle.controller.specs.Run.{Standing, Turn, went, halted, turn_of, short, Run, after_turn, run_from, pairs_of}
 use Rattle.controller.specs.Skip.{Skipping, skip_step, skip_by}

@@ -1,5 +1,5 @@
 -- A block of data in auto write with flags: its rows flagged once for all of its addresses.
-use Rattle.std.proofs.Common.{◌≡◌, ℕ, zero, suc, ◌+◌, ◌-◌, ◌*◌, ◌/◌, ◌%◌, ◌<◌, Bool, true, false, cond, not, ◌||◌, List, [], ◌∷◌, length, drop, set, sym, refl, ap, ◌∙◌, subst, arith, length-set, ne_eqb}
+use Rattle.std.proofs.Common.{◌≡◌, ℕ, zero, suc, ◌+◌, ◌*◌, ◌/◌, ◌%◌, ◌<◌, Bool, true, false, cond, not, ◌||◌, List, [], ◌∷◌, length, drop, set, sym, refl, ap, ◌∙◌, subst, arith, length-set, ne_eqb}
 use Rattle.ground.specs.Lists.{stored}
 use Rattle.ground.proofs.Lists.{build-length}
 use Rattle.display.specs.Displayed.{text_code}

@@ -1,5 +1,5 @@
 -- One pair of a run with flags, and the list of skipped pairs behind it.
-use Rattle.std.proofs.Common.{◌≡◌, ℕ, zero, suc, ◌+◌, ◌-◌, ◌*◌, ◌/◌, ◌<◌, ◌≤◌, Bool, true, false, cond, not, ◌&&◌, ◌||◌, eqb, ltb, leb, ◌⊎◌, List, [], ◌∷◌, length, get_or, take, set, sym, refl, ap, ◌∙◌, subst, ⊎_elim, arith, ltb-true, le-ltb, lt-ltb, eq-eqb, ne_eqb, eqb-true, leb-false, leb-true}
+use Rattle.std.proofs.Common.{◌≡◌, ℕ, zero, suc, ◌+◌, ◌-◌, ◌*◌, ◌/◌, ◌<◌, ◌≤◌, Bool, true, false, cond, not, ◌&&◌, ◌||◌, eqb, ltb, leb, List, [], ◌∷◌, length, get_or, take, set, sym, refl, ap, ◌∙◌, subst, ⊎_elim, arith, ltb-true, le-ltb, lt-ltb, eq-eqb, ne_eqb, eqb-true, leb-false, leb-true}
 use native.Mathlib.Decide.{dec_lt}
 use lib.Dec.{eqb-suc-zero}
 use lib.Seq.{sets, length-sets}
@@ -20,7 +20,7 @@ use Rattle.controller.proofs.Blocks.{pair_at, pairs-behind, write-only}
 use Rattle.controller.proofs.Splits.{projected}
 use Rattle.controller.proofs.Laws.{Sounds, sounds-valid, step-sound}
 use Rattle.controller.proofs.Goings.{Leaves, Going, going, going-ends, going-halts, going-went}
-use Rattle.controller.proofs.Turns.{Answering, answers, declines, Acting, acts, refuses, step-answering, step-acting, step-number}
+use Rattle.controller.proofs.Turns.{Answering, declines, Acting, acts, refuses, step-answering, step-acting, step-number}
 use Rattle.watch.specs.Types.{Panel, Display, Registers, Acted, RanOn, FlagTurn, Quick, Noted}
 use Rattle.flags.specs.Flags.{same_display, flags_after, Flagged, with_flags, flag_by, flag_step}
 use Rattle.flags.specs.Follow.{followed, followed_by, followed_of, follow_of}
@@ -102,6 +102,8 @@ module _ (p : Panel) (r : Registers) (mem rom flags : List ℕ) (answers : List 
             ∙ sym (ap (λ (u : Bool). turned_flags_of here (cond u (went (record { machine = with_flags t (flags_after p (machine r mem) pair t flags); answers = set answers given c; given = given + 1 })) (halted 13))) room)
         go (refused (suc n)) (declines many few) v =
             absurd (let y : suc n ≡ 0 = sym (λ i. (v i).acted.number) ∙ z in omega (arith, y))
+        go (done _) a v = elim a [ ]
+        go (refused zero) a v = elim a [ ]
 
     -- any other, or a refusal
     pub turn-others : ((eqb k 2 || eqb k 3) && eqb x.number 0) ≡ false
@@ -117,6 +119,8 @@ module _ (p : Panel) (r : Registers) (mem rom flags : List ℕ) (answers : List 
             read (answered t c) a v y = absurd (y (λ i. (v i).acted.number))
             read (refused (suc n)) (declines many few) v y =
                 λ i. turned_flags (record { registers = (v i).acted.registers; given = given; number = (v i).acted.number }) (v i).memory (v i).flags answers
+            read (done _) a v y = elim a [ ]
+            read (refused zero) a v y = elim a [ ]
         go false e n = act (step_of p rom (machine r mem) pair) (step-acting p rom (machine r mem) k b e) w
           where
             act : (o : Step Machine) → Acting o → followed x m f ≡ followed_of r mem flags (flag_by p here.machine pair o)
@@ -124,6 +128,8 @@ module _ (p : Panel) (r : Registers) (mem rom flags : List ℕ) (answers : List 
             act (done t) acts v = λ i. turned_flags (record { registers = (v i).acted.registers; given = given; number = (v i).acted.number }) (v i).memory (v i).flags answers
             act (refused (suc n)) (refuses many few) v =
                 λ i. turned_flags (record { registers = (v i).acted.registers; given = given; number = (v i).acted.number }) (v i).memory (v i).flags answers
+            act (answered _ _) x7 v = elim x7 [ ]
+            act (refused zero) x8 v = elim x8 [ ]
 
 -- the larger machine's turn: what turn and note come to
 pub data Came (s : Standing (Skipping Flagged)) : Turn (Skipping Flagged) → TurnedFlags → NotedAll → Type 0 where
@@ -272,6 +278,7 @@ module _ {p : Panel} {rom log : List ℕ} {total : ℕ} {s₀ : Standing (Skippi
             → Flagging p rom log total s₀ y.standing.machine.machine.registers y.standing.machine.machine.memory y.standing.machine.flags y.standing.answers y.standing.given u.skips u.noted.listed (i + 1)
         go (went _) y u takes z w = record { goes_on = going-went steps_on Sort (flag-sound p rom _) g.goes_on h l w }
         go (halted (suc n)) y u ends z w = absurd (let q : ⊥ = omega (arith, z) in q)
+        go (halted zero) y u x6 z w = elim x6 [ ]
 
     pub flagging-stops : (x.number ≡ 0 → ⊥)
         → {y : RanOn} → y ≡ record { ran = record { number = x.number; place = i; taken = i; answers = t.given; registers = t.registers }; skipped = x.listed }
@@ -284,6 +291,7 @@ module _ {p : Panel} {rom log : List ℕ} {total : ℕ} {s₀ : Standing (Skippi
             ≡ ran_flags_of (run_from steps_on 0 (take total (pairs_of log)) s₀)
         go (went _) y u takes z w = absurd (z refl)
         go (halted (suc n)) y u ends z w = ap ran_flags_of (going-halts steps_on Sort (flag-sound p rom _) g.goes_on h l w)
+        go (halted zero) y u x6 z w = elim x6 [ ]
 
   -- a pair done apart from the others: no flag is touched
   pub flagging-quick : i < total → 2 * total ≤ length log → {x : Quick} → Quickly r (pair_at log i) x → x.done ≡ true

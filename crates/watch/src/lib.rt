@@ -1,2 +1,4 @@
 // A run that keeps the flags.
+#![tactic(auto)]
+
 pub mod run;

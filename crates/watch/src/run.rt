@@ -20,7 +20,7 @@ use turns::note::note;
 use usual::part::{datum, emptied, freed};
 
 // One pair of a run: the registers after, the answers so far, a number.
-#[derive(Drop)]
+#[derive(Clone, Copy)]
 pub(crate) struct FlagTurn {
     pub registers: Registers,
     pub given: usize,
@@ -121,7 +121,7 @@ fn passed(registers: Registers, count: usize) -> Registers
 }
 
 // A pair done apart from the others, or left as it was.
-#[derive(Drop)]
+#[derive(Clone, Copy)]
 pub(crate) struct Quick {
     pub registers: Registers,
     pub done: bool,

@@ -30,6 +30,7 @@ module _ {a : ℕ} where
   last-before : {b : ℕ} (xs ys : List Store) → LastAt a b xs → NoneAt a ys → LastAt a b (xs ++ ys)
   last-before (x ∷ xs) ys (here e f n) k = here e f (none_both xs ys n k)
   last-before (x ∷ xs) ys (later l) k = later (last-before xs ys l k)
+  last-before {b = b} [] ys x'' k = elim x'' [ ]
 
   -- one after the other
   accounts-both : {u v w : ℕ} (xs ys : List Store) → Accounts a u v xs → Accounts a v w ys → Accounts a u w (xs ++ ys)

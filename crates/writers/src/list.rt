@@ -18,7 +18,7 @@ use usual::draw::draw;
 use usual::part::{datum, emptied, freed, ticked};
 
 // A number and place, the entries listed, the registers after.
-#[derive(Drop)]
+#[derive(Clone, Copy)]
 pub struct Listed {
     pub registers: Registers,
     pub number: u8,

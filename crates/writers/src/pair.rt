@@ -13,7 +13,7 @@ use state::registers::{Bus, Display, Registers};
 use stores::stores::stores;
 
 // The registers behind a pair, and the entries needed then.
-#[derive(Drop)]
+#[derive(Clone, Copy)]
 pub(crate) struct Gone {
     pub display: Display,
     pub bus: Bus,

@@ -1,2 +1,4 @@
 // Who wrote there, for C.
+#![tactic(auto)]
+
 pub mod writing;
