@@ -20,7 +20,7 @@ use state::registers::Registers;
 use whole::all::run_all;
 
 // A number, its place and the log that it is of, 0 for neither; the entries listed of memory, then of registers; the dots that differ.
-#[derive(Drop)]
+#[derive(Clone, Copy)]
 pub struct Compared {
     pub number: u8,
     pub place: usize,

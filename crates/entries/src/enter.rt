@@ -7,7 +7,7 @@ use super::list::{count_bytes, count_values, list_bytes, list_values};
 use ground::bytes::lesser;
 
 // The entries of each, and whether there was room for them.
-#[derive(Drop)]
+#[derive(Clone, Copy)]
 pub struct Entered {
     pub bytes: usize,
     pub values: usize,

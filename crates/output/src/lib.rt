@@ -1,9 +1,11 @@
 // What the programs write of a run: its line, the pairs it skipped, its answers and its frame's rows; each says whether all was written.
+#![tactic(auto)]
+
 ghost use Rattle.std.specs.Prelude.{◌≡◌, length};
 
 use display::frame::paint;
-use libc::STDOUT_FILENO;
 use printed::parts::{print_answers, print_line, print_refusal, print_rows};
+use report::STDOUT_FILENO;
 use state::panel::Panel;
 use state::registers::Registers;
 

@@ -1,5 +1,5 @@
 -- Played part by part, any log is its run.
-use Rattle.std.proofs.Common.{◌≡◌, ℕ, suc, ◌+◌, ◌/◌, ◌%◌, ◌^◌, ◌<◌, ◌≤◌, Bool, true, false, cond, not, ◌&&◌, eqb, List, [], ◌∷◌, ◌++◌, length, take, sym, refl, ap, ◌∙◌, subst, append-nil, mod-eq_of_lt, arith, length-append, take_all, eq-eqb, ne_eqb, eqb-true}
+use Rattle.std.proofs.Common.{zero, ◌≡◌, ℕ, suc, ◌+◌, ◌/◌, ◌%◌, ◌^◌, ◌<◌, ◌≤◌, Bool, true, false, cond, not, ◌&&◌, eqb, List, [], ◌∷◌, ◌++◌, length, take, sym, refl, ap, ◌∙◌, subst, append-nil, mod-eq_of_lt, arith, length-append, take_all, eq-eqb, ne_eqb, eqb-true}
 use lib.Dec.{eqb-suc-zero}
 use Rattle.ground.proofs.Tests.{both, both_left, both_right}
 use Rattle.state.specs.declared.panel.Panel.{Panel}
@@ -79,6 +79,7 @@ place-on : (k : ℕ) (e : End) (t : ℕ) → Ends e → k + t < 2 ^ 64 → cond 
 place-on k whole t all h = refl
 place-on k (short (suc n)) t cut h =
     ap (λ (b : Bool). cond b 0 ((k + t) % 2 ^ 64)) (eqb-suc-zero n) ∙ mod-eq_of_lt h
+place-on k (short zero) t x4 h = elim x4 [ ]
 
 module _ (k : ℕ) (given : List ℕ) (r : Registers) {f : Free Machine} {e : Run Machine} (a : Agrees f e) (ends : Ends f.end) (h : k + f.taken < 2 ^ 64)
     (g : length given + length f.given < 2 ^ 64) where
@@ -196,6 +197,7 @@ module _ (p : Panel) (rom : List ℕ) (v : valid_panel p ≡ true) (l : length r
           ∙ ap gathered (sym (free-append (step_of p rom) (pairs_of q.log) (pairs_of (log_of_parts qs)) k m given))
           ∙ ap (λ (ps : List Pair). gathered (free_from (step_of p rom) k ps m given)) (sym (pairs-append q.log (log_of_parts qs) even))
       go (short (suc n)) cut on = stuck p rom (q ∷ qs) (gathered (free m k (short (suc n)) given)) (λ z. omega arith)
+      go (short zero) x10 on = elim x10 [ ]
 
 -- refused at the door: 1 and 2
 module _ (p : Panel) (r : Registers) (mem rom log : List ℕ) (limit : ℕ) (answers : List ℕ) where

@@ -1,2 +1,4 @@
 // A log of any length, played part by part.
+#![tactic(auto)]
+
 pub mod play;

@@ -7,14 +7,14 @@ use state::panel::Panel;
 use state::registers::Registers;
 
 // The run so far, and how many answers the part gave.
-#[derive(Drop)]
+#[derive(Clone, Copy)]
 pub struct Played {
     pub ran: Ran,
     pub given: usize,
 }
 
 // Likewise, and how many pairs of the part were skipped.
-#[derive(Drop)]
+#[derive(Clone, Copy)]
 pub struct PlayedOn {
     pub ran: Ran,
     pub given: usize,

@@ -1,4 +1,6 @@
 // The texts that the programs print.
+#![tactic(auto)]
+
 pub mod fill;
 pub mod input;
 pub mod parts;

@@ -1,37 +1,51 @@
-// A program's ends: input read so that a failure is told from its end, words with numbers put out, and the report on a descriptor of its
-// own.
+// A program's ends: input read so that a failure is told from its end, words with numbers put out, the arguments, and the report on a
+// descriptor of its own.
+#![tactic(auto)]
+
 ghost use Rattle.io.specs.Counts.{IsPrefixLen};
 
-use libc::{STDIN_FILENO, STDOUT_FILENO};
+use std::env::FillError;
+use std::io::Read;
+use std::rt::Env;
+
+// The standard output and the standard error, by their descriptors.
+pub const STDOUT_FILENO: i32 = 1;
+
+pub const STDERR_FILENO: i32 = 2;
 
 // Where a program reports; whoever starts it opens this descriptor, and where it is not open there is no report.
 const REPORT_FILENO: i32 = 3;
 
 // So many bytes at a buffer's start; failed where a read gave an error, which is not the end of the input.
-#[derive(Drop)]
+#[derive(Clone, Copy)]
 pub struct Got {
     pub count: usize,
     pub failed: bool,
 }
 
 // One read.
-fn read_some(fd: i32, buf: &mut [u8]) -> Got
+fn read_some<R: Read>(input: &mut R, buf: &mut [u8]) -> Got
     ensures { IsPrefixLen result.count buf.new }
 {
-    let got = libc::read(fd, buf);
-    Got {
-        count: io::count(got, buf),
-        failed: got < 0,
+    match input.read(buf) {
+        Ok(count) => Got {
+            count,
+            failed: false,
+        },
+        Err(_) => Got {
+            count: 0,
+            failed: true,
+        },
     }
 }
 
 // Reads until the buffer is full, the input ends or a read fails.
-pub fn read_whole(fd: i32, buf: &mut [u8]) -> Got
+pub fn read_whole<R: Read>(input: &mut R, buf: &mut [u8]) -> Got
     ensures { IsPrefixLen result.count buf.new }
 {
     let mut done: usize = 0;
     while done < buf.len() {
-        let got = read_some(fd, &mut buf[done..]);
+        let got = read_some(input, &mut buf[done..]);
         if got.failed {
             return Got {
                 count: done,
@@ -53,17 +67,23 @@ pub fn read_whole(fd: i32, buf: &mut [u8]) -> Got
 }
 
 // The whole buffer filled, and no read failed.
-pub fn read_exact(fd: i32, buf: &mut [u8]) -> bool {
-    let got = read_whole(fd, buf);
+pub fn read_exact<R: Read>(input: &mut R, buf: &mut [u8]) -> bool {
+    let got = read_whole(input, buf);
     !got.failed & (got.count == buf.len())
 }
 
 // A ROM that was given is the input's first part, which has to be whole.
-pub fn read_rom(given: bool, rom: &mut [u8]) -> bool {
-    if given {
-        read_exact(STDIN_FILENO, rom)
-    } else {
-        true
+pub fn read_rom<R: Read>(input: &mut R, given: bool, rom: &mut [u8]) -> bool {
+    if given { read_exact(input, rom) } else { true }
+}
+
+// Whether the program was started with so many arguments behind its name, or more; of a number from 1 on.
+pub fn has_argument(rt: &impl Env, number: usize) -> bool {
+    let mut word = [0u8; 1];
+    match rt.arg(number, &mut word) {
+        Ok(_) => true,
+        Err(FillError::TooLong) => true,
+        Err(FillError::NotPresent) => false,
     }
 }
 
