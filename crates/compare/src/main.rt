@@ -1,19 +1,20 @@
 // The compare program: a panel and two logs from standard input; what differs when both have run to standard output. Started with an
 // argument it takes the character ROM before them, with two the panel is in two halves.
+#![tactic(auto)]
+
 ghost use Rattle.std.specs.Prelude.{◌≤◌};
 
 use comparison::compare::{Compared, compare};
 use ground::bytes::{lesser, word};
-use libc::{STDIN_FILENO, STDOUT_FILENO};
 use printed::fill::{character_rom, empty_memory};
 use printed::input::{byte_in, number_in, panel_in, rest_in, start_in};
-use report::{put_field, read_rom, read_whole, report};
+use report::{STDOUT_FILENO, has_argument, put_field, read_rom, read_whole, report};
 
 // The bytes of a log that count.
 const LIMIT: usize = 16384;
 
 // Whether all was written, and the number.
-#[derive(Drop)]
+#[derive(Clone, Copy)]
 struct Shown {
     whole: bool,
     number: u8,
@@ -119,8 +120,8 @@ fn put_compared(compared: Compared, list: &[usize]) -> bool {
 }
 
 // Behind the panel two bytes, low byte first, say how long log one is; log two is the rest.
-fn show(rom: &[u8], input: &[u8]) -> Shown {
-    let panel = panel_in(input, os::arg_count() > 2);
+fn show(rt: HostRuntime, rom: &[u8], input: &[u8]) -> Shown {
+    let panel = panel_in(input, has_argument(&rt, 2));
     let length = word(byte_in(input, 3), byte_in(input, 4)) as usize;
     let logs = rest_in(input, 5);
     let one = start_in(logs, lesser(length, LIMIT));
@@ -136,18 +137,18 @@ fn show(rom: &[u8], input: &[u8]) -> Shown {
     }
 }
 
-fn main() {
+fn main(rt: HostRuntime) {
     let mut rom = character_rom();
-    if !read_rom(os::arg_count() > 1, &mut rom) {
+    if !read_rom(&mut rt.stdin(), has_argument(&rt, 1), &mut rom) {
         return;
     }
     let mut input = [0u8; 81924];
-    let got = read_whole(STDIN_FILENO, &mut input);
+    let got = read_whole(&mut rt.stdin(), &mut input);
     if got.failed {
         return;
     }
     let end = got.count;
-    let shown = show(&rom, &input[..end]);
+    let shown = show(rt, &rom, &input[..end]);
     if shown.whole {
         report(shown.number);
     }

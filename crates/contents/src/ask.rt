@@ -8,7 +8,7 @@ ghost use Rattle.contents.specs.Numbers.{contents_number, contents_place, asked_
 use super::open::{Spans, open};
 
 // A screen's body, its first byte and the byte behind it; or a refusal with its place.
-#[derive(Drop)]
+#[derive(Clone, Copy)]
 pub enum Asked {
     Body(usize, usize),
     Refused(u8, usize),

@@ -5,7 +5,7 @@ ghost use Rattle.contents.specs.Contents.{count_at, entries_at, entry_size, firs
 use super::bytes::word_at;
 
 // What a screen is asked for by, and where its body begins and how long it is.
-#[derive(Drop)]
+#[derive(Clone, Copy)]
 pub struct Entry {
     pub key: u16,
     pub offset: u16,

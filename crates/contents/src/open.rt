@@ -9,7 +9,7 @@ use super::entry::{count_at, entries_at, entry_at, entry_size, first_body, wrong
 
 // A number and place; the form, and of each screen what it is asked for by, its first byte and the byte behind it. 64 of each, 0
 // behind the count; all of it 0 where it was refused.
-#[derive(Drop)]
+#[derive(Clone, Copy)]
 pub struct Spans {
     pub number: u8,
     pub place: usize,

@@ -12,7 +12,7 @@ use borrow.Author.Tests.{lt-ltb, eqb-true, eqb-false}
 use Rattle.state.specs.State.{valid_panel, valid_registers}
 use Rattle.state.specs.declared.registers.Auto.{Auto}
 use Rattle.display.specs.Frame.{lent_lengths}
-use Rattle.effects.specs.Machine.{Machine, machine, bus}
+use Rattle.effects.specs.Machine.{Machine, machine}
 use Rattle.controller.specs.Access.{Pair, Step, done, answered, refused, step_of}
 use Rattle.controller.specs.Run.{pairs_of, Standing, went, halted, turn_of, End, whole, short, Run, after_turn, run_from, RanAll, ran_of, ran_none, stopping_of}
 use Rattle.controller.proofs.Blocks.{pair_at, pair-next}

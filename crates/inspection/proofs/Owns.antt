@@ -13,7 +13,7 @@ use Rattle.state.specs.State.{valid_panel, valid_registers}
 use Rattle.state.specs.declared.registers.Auto.{Auto}
 use Rattle.state.specs.declared.registers.Auto.TheVariants.{Off, Write, Read}
 use Rattle.display.specs.Frame.{lent_lengths}
-use Rattle.effects.specs.Machine.{Machine, machine, bus}
+use Rattle.effects.specs.Machine.{Machine, machine}
 use Rattle.effects.specs.Effect.{auto_bits, status_of}
 use Rattle.controller.specs.Access.{Pair, Step, done, answered, refused, step_of}
 use Rattle.controller.specs.Run.{pairs_of, Standing, went, halted, turn_of, End, whole, short, Run, after_turn, run_from, RanAll, ran_of, ran_none, stopping_of}

@@ -1,4 +1,5 @@
 -- An inspection pair by pair, and its door.
+use Rattle.std.proofs.Common.{zero}
 use mathlib.Core.Path.{◌≡◌, refl, ap, sym, subst, ◌∙◌}
 use mathlib.Core.Bool.{Bool, true, false, cond, ◌&&◌, ◌||◌}
 use mathlib.Core.List.{List, []}
@@ -11,7 +12,7 @@ use borrow.Author.Tests.{eq-eqb, ne_eqb}
 use Rattle.ground.proofs.Tests.{both, settled}
 use Rattle.state.specs.State.{valid_panel, valid_registers}
 use Rattle.display.specs.Frame.{lent_lengths}
-use Rattle.effects.specs.Machine.{Machine, machine, bus}
+use Rattle.effects.specs.Machine.{Machine, machine}
 use Rattle.controller.specs.Access.{Pair, Step, done, answered, refused, step_of, Accessed, replied, acted_of, accessed, access_of}
 use Rattle.controller.specs.Run.{pairs_of, Standing, turn_of, whole, run_from}
 use Rattle.controller.specs.Ready.{Runs}
@@ -30,10 +31,14 @@ module _ (r : Registers) (m : List ℕ) {a : Acted} {m' : List ℕ} where
   read_taken : (o : Step Machine) → Answering (machine r m) o → replied a m' ≡ acted_of r m o → a.number ≡ 0 → o ≡ answered (machine a.registers m') a.answer
   read_taken (answered s b) answers e z = sym (λ i. answered (machine (e i).acted.registers (e i).memory) (e i).acted.answer)
   read_taken (refused (suc n)) (declines many few) e z = let f : a.number ≡ suc n = ap (λ (x : Accessed). x.acted.number) e in absurd (let y : ⊥ = omega arith in y)
+  read_taken (done _) x4 e z = elim x4 [ ]
+  read_taken (refused zero) x8 e z = elim x8 [ ]
 
   act-taken : (o : Step Machine) → Acting o → replied a m' ≡ acted_of r m o → a.number ≡ 0 → o ≡ done (machine a.registers m')
   act-taken (done s) acts e z = sym (λ i. done (machine (e i).acted.registers (e i).memory))
   act-taken (refused (suc n)) (refuses many few) e z = let f : a.number ≡ suc n = ap (λ (x : Accessed). x.acted.number) e in absurd (let y : ⊥ = omega arith in y)
+  act-taken (answered _ _) x5 e z = elim x5 [ ]
+  act-taken (refused zero) x6 e z = elim x6 [ ]
 
   not_taken : (o : Step Machine) → replied a m' ≡ acted_of r m o → (a.number ≡ 0 → ⊥) → (o ≡ refused a.number) × (m' ≡ m)
   not_taken (done s) e z = absurd (z (ap (λ (x : Accessed). x.acted.number) e))

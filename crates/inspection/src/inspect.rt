@@ -12,7 +12,7 @@ use state::panel::Panel;
 use state::registers::Registers;
 
 // A number and place; the first pair that was not asked for, the first recorded answer that is not the controller's own; the registers after.
-#[derive(Drop)]
+#[derive(Clone, Copy)]
 pub struct Inspected {
     pub registers: Registers,
     pub number: u8,

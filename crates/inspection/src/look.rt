@@ -7,7 +7,7 @@ use ground::bytes::bit;
 use state::registers::Auto;
 
 // The first of something: a pair, or an answer's index among the answers.
-#[derive(Drop)]
+#[derive(Clone, Copy)]
 pub enum Named {
     At(usize),
     Nothing,
@@ -15,7 +15,7 @@ pub enum Named {
 
 // Whether a ready status was read since the last pair that needed one; the first pair that had none; the first recorded answer that is not
 // the controller's own.
-#[derive(Drop)]
+#[derive(Clone, Copy)]
 pub struct Looked {
     pub asked: bool,
     pub unasked: Named,

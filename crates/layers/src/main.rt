@@ -1,16 +1,17 @@
 // The layers program: a panel, a cell and a log from standard input; text, graphic and what comes of them to standard output. Started with
 // an argument it takes the character ROM before them.
+#![tactic(auto)]
+
 ghost use Rattle.std.specs.Prelude.{◌≤◌};
 
 use controller::run::run_stopping;
 use display::seen::row_layers;
 use ground::bytes::{bit, lesser};
 use ground::cells::pack;
-use libc::{STDIN_FILENO, STDOUT_FILENO};
 use output::write_line;
 use printed::fill::{character_rom, empty_memory};
 use printed::input::{byte_in, panel_in, rest_in};
-use report::{read_rom, read_whole, report};
+use report::{STDOUT_FILENO, has_argument, read_rom, read_whole, report};
 use state::panel::Panel;
 use state::registers::{Display, Registers};
 
@@ -18,7 +19,7 @@ use state::registers::{Display, Registers};
 const WHOLE: usize = 255;
 
 // Whether all was written, and the run's number.
-#[derive(Drop)]
+#[derive(Clone, Copy)]
 struct Shown {
     whole: bool,
     number: u8,
@@ -165,8 +166,8 @@ fn put_layers(
 }
 
 // The run's line, as the log program has it, then the layers; on refusals 1 and 8 the line only.
-fn show(rom: &[u8], input: &[u8]) -> Shown {
-    let panel = panel_in(input, os::arg_count() > 2);
+fn show(rt: HostRuntime, rom: &[u8], input: &[u8]) -> Shown {
+    let panel = panel_in(input, has_argument(&rt, 2));
     let row = byte_in(input, 3) as usize;
     let column = byte_in(input, 4) as usize;
     let log = rest_in(input, 5);
@@ -198,18 +199,18 @@ fn show(rom: &[u8], input: &[u8]) -> Shown {
     }
 }
 
-fn main() {
+fn main(rt: HostRuntime) {
     let mut rom = character_rom();
-    if !read_rom(os::arg_count() > 1, &mut rom) {
+    if !read_rom(&mut rt.stdin(), has_argument(&rt, 1), &mut rom) {
         return;
     }
     let mut input = [0u8; 16389];
-    let got = read_whole(STDIN_FILENO, &mut input);
+    let got = read_whole(&mut rt.stdin(), &mut input);
     if got.failed {
         return;
     }
     let end = got.count;
-    let shown = show(&rom, &input[..end]);
+    let shown = show(rt, &rom, &input[..end]);
     if shown.whole {
         report(shown.number);
     }

@@ -1,11 +1,12 @@
 // The list program: a character ROM, a panel and a log of any length from standard input; to standard output a line for each pair: its place,
 // kind, byte and refusal number, and what it was in words.
+#![tactic(auto)]
+
 use ground::bytes::lesser;
-use libc::{STDIN_FILENO, STDOUT_FILENO};
 use naming::pair::put_words;
 use printed::fill::empty_memory;
 use printed::input::panel_in;
-use report::{read_exact, read_whole, report};
+use report::{STDOUT_FILENO, has_argument, read_exact, read_whole, report};
 use single::access::access;
 use state::panel::Panel;
 use state::registers::Registers;
@@ -13,7 +14,7 @@ use state::reply::Acted;
 use words::put::{put_byte, put_decimal, put_hex};
 
 // The registers behind the pairs listed, the end of their lines, and the number of the first refused pair.
-#[derive(Drop)]
+#[derive(Clone, Copy)]
 struct Listed {
     registers: Registers,
     end: usize,
@@ -21,7 +22,7 @@ struct Listed {
 }
 
 // The same of a part of the log, with the bytes read for it, and whether a read or a write failed.
-#[derive(Drop)]
+#[derive(Clone, Copy)]
 struct Heard {
     registers: Registers,
     number: u8,
@@ -105,6 +106,7 @@ fn list_pairs(
 // The next part of the log, 1,024 pairs where it is not the last. Their lines have less than 128 characters each; a room that was filled
 // would have lost some.
 fn list_part(
+    rt: HostRuntime,
     panel: Panel,
     before: Registers,
     refused: u8,
@@ -113,7 +115,7 @@ fn list_part(
     from: usize,
 ) -> Heard {
     let mut part = [0u8; 2048];
-    let got = read_whole(STDIN_FILENO, &mut part);
+    let got = read_whole(&mut rt.stdin(), &mut part);
     if got.failed {
         return Heard {
             registers: before,
@@ -146,13 +148,13 @@ fn list_part(
 }
 
 // Part after part, from reset; the last one is shorter than the others. The turns end behind 2^43 bytes.
-fn list_all(panel: Panel, memory: &mut [u8], rom: &[u8]) -> Heard {
+fn list_all(rt: HostRuntime, panel: Panel, memory: &mut [u8], rom: &[u8]) -> Heard {
     let mut registers = Registers::reset();
     let mut number: u8 = 0;
     let mut bytes: usize = 0;
     let mut turns: usize = 4294967296;
     while turns > 0 {
-        let heard = list_part(panel, registers, number, memory, rom, bytes / 2);
+        let heard = list_part(rt, panel, registers, number, memory, rom, bytes / 2);
         registers = heard.registers;
         number = heard.number;
         bytes = std::num::wrapping_add_usize(bytes, heard.bytes);
@@ -179,24 +181,24 @@ fn told(bytes: usize, number: u8) -> u8 {
     if bytes % 2 == 0 { number } else { 8 }
 }
 
-fn main() {
+fn main(rt: HostRuntime) {
     let mut rom = [0u8; 1024];
-    if !read_exact(STDIN_FILENO, &mut rom) {
+    if !read_exact(&mut rt.stdin(), &mut rom) {
         return;
     }
     let mut head = [0u8; 3];
-    let got = read_whole(STDIN_FILENO, &mut head);
+    let got = read_whole(&mut rt.stdin(), &mut head);
     if got.failed {
         return;
     }
     let end = got.count;
-    let panel = panel_in(&head[..end], os::arg_count() > 1);
+    let panel = panel_in(&head[..end], has_argument(&rt, 1));
     if !panel.valid() {
         report(1);
         return;
     }
     let mut memory = empty_memory();
-    let heard = list_all(panel, &mut memory, &rom);
+    let heard = list_all(rt, panel, &mut memory, &rom);
     if !heard.failed {
         report(told(heard.bytes, heard.number));
     }

@@ -1,17 +1,18 @@
 // The list_writers program: a character ROM, a panel, a first and a last address and a log of any length from standard input; to standard
 // output a line for each store into that stretch, then how many, then the refusal.
+#![tactic(auto)]
+
 use ground::bytes::{lesser, word};
-use libc::{STDIN_FILENO, STDOUT_FILENO};
 use printed::fill::empty_memory;
 use printed::input::{number_in, panel_in};
-use report::{put_field, read_exact, read_whole, report};
+use report::{STDOUT_FILENO, has_argument, put_field, read_exact, read_whole, report};
 use state::panel::Panel;
 use state::registers::Registers;
 use words::put::{put, put_byte, put_decimal, put_hex, put_word};
 use writers::list::list;
 
 // The registers behind the pairs run, the entries listed, the bytes read, a number, and whether a read or a write failed.
-#[derive(Drop)]
+#[derive(Clone, Copy)]
 struct Heard {
     registers: Registers,
     stores: usize,
@@ -109,6 +110,7 @@ fn list_part(
 
 // The next part of the log, 512 pairs where it is not the last: no more than 80 entries a pair, so that they fit in the room.
 fn next_part(
+    rt: HostRuntime,
     panel: Panel,
     registers: Registers,
     memory: &mut [u8],
@@ -119,7 +121,7 @@ fn next_part(
     past: usize,
 ) -> Heard {
     let mut part = [0u8; 1024];
-    let got = read_whole(STDIN_FILENO, &mut part);
+    let got = read_whole(&mut rt.stdin(), &mut part);
     if got.failed {
         return Heard {
             registers,
@@ -146,6 +148,7 @@ fn next_part(
 
 // Part after part, from reset; the last one is shorter than the others. The turns end behind 2^42 bytes.
 fn list_all(
+    rt: HostRuntime,
     panel: Panel,
     memory: &mut [u8],
     rom: &[u8],
@@ -158,7 +161,17 @@ fn list_all(
     let mut bytes: usize = 0;
     let mut turns: usize = 4294967296;
     while turns > 0 {
-        let heard = next_part(panel, registers, memory, rom, first, last, room, bytes / 2);
+        let heard = next_part(
+            rt,
+            panel,
+            registers,
+            memory,
+            rom,
+            first,
+            last,
+            room,
+            bytes / 2,
+        );
         registers = heard.registers;
         stores = std::num::wrapping_add_usize(stores, heard.stores);
         bytes = std::num::wrapping_add_usize(bytes, heard.bytes);
@@ -200,23 +213,23 @@ fn show(heard: Heard) -> bool {
     count & refusal & at & io::write_all(STDOUT_FILENO, b"\n")
 }
 
-fn main() {
+fn main(rt: HostRuntime) {
     let mut rom = [0u8; 1024];
-    if !read_exact(STDIN_FILENO, &mut rom) {
+    if !read_exact(&mut rt.stdin(), &mut rom) {
         return;
     }
     let mut head = [0u8; 7];
-    let got = read_whole(STDIN_FILENO, &mut head);
+    let got = read_whole(&mut rt.stdin(), &mut head);
     if got.failed {
         return;
     }
     // what was not read is 0, as a missing byte counts
-    let panel = panel_in(&head, os::arg_count() > 1);
+    let panel = panel_in(&head, has_argument(&rt, 1));
     let first = word(head[3], head[4]);
     let last = word(head[5], head[6]);
     let mut memory = empty_memory();
     let mut room = [0usize; 163840];
-    let heard = list_all(panel, &mut memory, &rom, first, last, &mut room);
+    let heard = list_all(rt, panel, &mut memory, &rom, first, last, &mut room);
     if heard.failed {
         return;
     }

@@ -1,2 +1,4 @@
 // What a pair was, in words.
+#![tactic(auto)]
+
 pub mod pair;

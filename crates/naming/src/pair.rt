@@ -7,7 +7,7 @@ use words::put::{put, put_byte, put_decimal, put_hex, put_piece, put_word};
 use words::target::put_target;
 
 // A command's words, by their numbers in `put_word_of`; 0 is none.
-#[derive(Drop)]
+#[derive(Clone, Copy)]
 struct Name {
     word: u8,
     tail: u8,

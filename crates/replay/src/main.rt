@@ -1,17 +1,18 @@
 // The replay program: a character ROM, a panel and a log of any length from standard input; to standard output the answers as they come
 // and, where it keeps going, the pairs skipped, then what the run came to and the frame.
+#![tactic(auto)]
+
 use controller::run::Ran;
-use libc::{STDIN_FILENO, STDOUT_FILENO};
 use output::{write_answers, write_frame, write_line, write_skipped};
 use playback::play::{begin, close, play, play_on};
 use printed::fill::empty_memory;
 use printed::input::panel_in;
-use report::{read_exact, read_whole, report};
+use report::{STDOUT_FILENO, has_argument, read_exact, read_whole, report};
 use state::panel::Panel;
 use state::registers::Registers;
 
 // The run so far, the bytes read for it, and whether a read or a write failed.
-#[derive(Drop)]
+#[derive(Clone, Copy)]
 struct Heard {
     ran: Ran,
     bytes: usize,
@@ -61,9 +62,16 @@ fn go_on(
 }
 
 // The next part of the log, 32,768 pairs where it is not the last, by the run asked for.
-fn next_part(panel: Panel, past: Ran, memory: &mut [u8], rom: &[u8], keep: bool) -> Heard {
+fn next_part(
+    rt: HostRuntime,
+    panel: Panel,
+    past: Ran,
+    memory: &mut [u8],
+    rom: &[u8],
+    keep: bool,
+) -> Heard {
     let mut part = io::large_buffer();
-    let got = read_whole(STDIN_FILENO, &mut part);
+    let got = read_whole(&mut rt.stdin(), &mut part);
     if got.failed {
         return Heard {
             ran: past,
@@ -80,12 +88,12 @@ fn next_part(panel: Panel, past: Ran, memory: &mut [u8], rom: &[u8], keep: bool)
 }
 
 // Part after part, from reset; the last one is shorter than the others. The turns end behind 2^48 bytes.
-fn play_all(panel: Panel, memory: &mut [u8], rom: &[u8], keep: bool) -> Heard {
+fn play_all(rt: HostRuntime, panel: Panel, memory: &mut [u8], rom: &[u8], keep: bool) -> Heard {
     let mut ran = begin(Registers::reset());
     let mut bytes: usize = 0;
     let mut turns: usize = 4294967296;
     while turns > 0 {
-        let heard = next_part(panel, ran, memory, rom, keep);
+        let heard = next_part(rt, panel, ran, memory, rom, keep);
         ran = heard.ran;
         bytes = std::num::wrapping_add_usize(bytes, heard.bytes);
         if heard.failed | (heard.bytes < 65536) {
@@ -115,9 +123,9 @@ fn show(panel: Panel, ran: Ran, memory: &[u8], rom: &[u8]) -> bool {
 }
 
 // The log played and shown; then the report.
-fn play_log(panel: Panel, rom: &[u8], keep: bool) {
+fn play_log(rt: HostRuntime, panel: Panel, rom: &[u8], keep: bool) {
     let mut memory = empty_memory();
-    let heard = play_all(panel, &mut memory, rom, keep);
+    let heard = play_all(rt, panel, &mut memory, rom, keep);
     if heard.failed {
         return;
     }
@@ -129,19 +137,21 @@ fn play_log(panel: Panel, rom: &[u8], keep: bool) {
     }
 }
 
-fn main() {
+fn main(rt: HostRuntime) {
     let mut rom = [0u8; 1024];
-    if !read_exact(STDIN_FILENO, &mut rom) {
+    if !read_exact(&mut rt.stdin(), &mut rom) {
         return;
     }
     let mut head = [0u8; 3];
-    let got = read_whole(STDIN_FILENO, &mut head);
+    let got = read_whole(&mut rt.stdin(), &mut head);
     if got.failed {
         return;
     }
     // `dual`, `keep going` or both: one, two or three words
-    let words = os::arg_count();
+    let keep = has_argument(&rt, 2);
+    let one = has_argument(&rt, 1) & !keep;
+    let three = has_argument(&rt, 3) & !has_argument(&rt, 4);
     // what was not read is 0, as a missing byte counts
-    let panel = panel_in(&head, (words == 2) | (words == 4));
-    play_log(panel, &rom, words > 2);
+    let panel = panel_in(&head, one | three);
+    play_log(rt, panel, &rom, keep);
 }

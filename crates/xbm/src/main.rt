@@ -1,26 +1,28 @@
 // The xbm program: the log program's input in, its last frame as XBM out. Started with an argument it takes the character ROM before it,
 // with two the panel is in two halves; a refusal's line is then on standard error. Started with the word `back` it takes a panel and a
 // frame in XBM's order, and puts out its rows.
+#![tactic(auto)]
+
 ghost use Rattle.std.specs.Prelude.{◌≡◌, ◌+◌, ◌≤◌, length};
 ghost use Rattle.io.specs.Counts.{IsPrefixLen};
 
 use controller::run::{Ran, run_stopping};
 use display::frame::paint;
 use ground::bytes::lesser;
-use libc::{STDERR_FILENO, STDIN_FILENO, STDOUT_FILENO};
 use mirror::convert::convert;
 use output::{write_line, write_rows};
 use printed::fill::{character_rom, empty_memory};
 use printed::input::{panel_in, rest_in};
-use report::{put_field, read_rom, read_whole, report};
+use report::{STDERR_FILENO, STDOUT_FILENO, has_argument, put_field, read_rom, read_whole, report};
 use state::panel::Panel;
 use state::registers::Registers;
+use std::rt::Env;
 
 // Bytes to a line.
 const ACROSS: usize = 12;
 
 // Whether all was written, and the number.
-#[derive(Drop)]
+#[derive(Clone, Copy)]
 struct Shown {
     whole: bool,
     number: u8,
@@ -133,8 +135,8 @@ fn put_line(fd: i32, ran: Ran) -> bool {
 }
 
 // A refusal behind which there is a frame, told to whoever gave a ROM.
-fn tell(ran: Ran) -> bool {
-    if (ran.number != 0) & (os::arg_count() > 1) {
+fn tell(rt: HostRuntime, ran: Ran) -> bool {
+    if (ran.number != 0) & has_argument(&rt, 1) {
         put_line(STDERR_FILENO, ran)
     } else {
         true
@@ -142,8 +144,8 @@ fn tell(ran: Ran) -> bool {
 }
 
 // The frame after the run; on refusals 1 and 8 the line only.
-fn show(rom: &[u8], input: &[u8]) -> Shown {
-    let panel = panel_in(input, os::arg_count() > 2);
+fn show(rt: HostRuntime, rom: &[u8], input: &[u8]) -> Shown {
+    let panel = panel_in(input, has_argument(&rt, 2));
     let log = rest_in(input, 3);
     let mut memory = empty_memory();
     let mut answers = [0u8; 8192];
@@ -164,7 +166,7 @@ fn show(rom: &[u8], input: &[u8]) -> Shown {
             number: ran.number,
         };
     }
-    let told = tell(ran);
+    let told = tell(rt, ran);
     let after = ran.registers;
     let size = panel.frame_size();
     let mut frame = [0u8; 20480];
@@ -175,18 +177,18 @@ fn show(rom: &[u8], input: &[u8]) -> Shown {
     }
 }
 
-fn show_log() {
+fn show_log(rt: HostRuntime) {
     let mut rom = character_rom();
-    if !read_rom(os::arg_count() > 1, &mut rom) {
+    if !read_rom(&mut rt.stdin(), has_argument(&rt, 1), &mut rom) {
         return;
     }
     let mut input = [0u8; 16387];
-    let got = read_whole(STDIN_FILENO, &mut input);
+    let got = read_whole(&mut rt.stdin(), &mut input);
     if got.failed {
         return;
     }
     let end = got.count;
-    let shown = show(&rom, &input[..end]);
+    let shown = show(rt, &rom, &input[..end]);
     if shown.whole {
         report(shown.number);
     }
@@ -204,11 +206,11 @@ fn turn_back(input: &[u8], frame: &mut [u8]) -> Shown {
 }
 
 // The panel, then the frame, and one byte more to see that it is too long.
-fn show_back() {
+fn show_back(rt: HostRuntime) {
     let mut head = [0u8; 3];
     let mut frame = [0u8; 20481];
-    let first = read_whole(STDIN_FILENO, &mut head);
-    let got = read_whole(STDIN_FILENO, &mut frame);
+    let first = read_whole(&mut rt.stdin(), &mut head);
+    let got = read_whole(&mut rt.stdin(), &mut frame);
     if first.failed | got.failed {
         return;
     }
@@ -221,16 +223,18 @@ fn show_back() {
 }
 
 // Whether the first argument is `back`.
-fn asked_back() -> bool {
+fn asked_back(rt: HostRuntime) -> bool {
     let mut word = [0u8; 5];
-    let count = os::arg(1, &mut word);
-    (count == 4) & (word[0] == b'b')
+    match rt.arg(1, &mut word) {
+        Ok(count) => (count == 4) & (word[0] == b'b'),
+        Err(_) => false,
+    }
 }
 
-fn main() {
-    if asked_back() {
-        show_back();
+fn main(rt: HostRuntime) {
+    if asked_back(rt) {
+        show_back(rt);
     } else {
-        show_log();
+        show_log(rt);
     }
 }

@@ -1,0 +1,138 @@
+// What the log program prints, as bytes in a lent room.
+ghost use Rattle.std.specs.Prelude.{◌≡◌, ◌+◌, ◌*◌, ◌≤◌, length};
+ghost use Rattle.ground.specs.Lists.{zeros};
+ghost use Rattle.display.specs.Frame.{frame_of};
+ghost use Rattle.controller.specs.Run.{ran_all};
+ghost use Rattle.printed.specs.Put.{TextPut};
+ghost use Rattle.printed.specs.Text.{hex_lines};
+ghost use Rattle.printed.specs.Printed.{characters, frame_lines, reported};
+ghost use Rattle.log_program.specs.Printing.{log_in, ran_in, ran_line, text_of, print_of};
+ghost use Rattle.log_program.specs.Ready.{FrameReady, TextReady};
+
+use controller::run::{Ran, run_stopping};
+use display::frame::paint;
+use ground::bytes::lesser;
+use printed::fill::{character_rom, empty_memory};
+use printed::input::panel_in;
+use printed::parts::{print_answers, print_line, print_rows};
+use printed::told::Told;
+use state::panel::Panel;
+use state::registers::Registers;
+
+// The log out of the input.
+fn log_in(input: &[u8]) -> &[u8]
+    ensures { result.now ≡ log_in input.now }
+{
+    let start = lesser(3, input.len());
+    let end = lesser(3 + 16384, input.len());
+    &input[start..end]
+}
+
+// Room for an answer to every pair of a log.
+fn no_answers() -> [u8; 8192]
+    ensures value { result ≡ zeros 8192 }
+    ensures value_2 { 8192 ≡ length result }
+{
+    [0; 8192]
+}
+
+// The run's line, which has at most 112 characters.
+fn put_line(ran: Ran, out: &mut [u8]) -> usize
+    requires { 112 ≤ length out.old }
+    ensures text_put { TextPut out.old 0 (ran_line ran) out.new result }
+    ensures upper_bound { result ≤ 112 }
+{
+    print_line(
+        ran.taken,
+        ran.answers,
+        ran.number,
+        ran.place,
+        &mut out[..112],
+    )
+}
+
+// The answers, one to a line, from a place on: the place behind them.
+fn put_answers(given: usize, answers: &[u8], out: &mut [u8], at: usize) -> usize
+    requires { (at + 3 * given ≤ length out.old) × (given ≤ length answers.now) }
+    ensures { TextPut out.old at (hex_lines given answers.now) out.new result }
+{
+    let lines = print_answers(given, answers, &mut out[at..]);
+    at + lines
+}
+
+// The frame, painted and then as text, likewise.
+fn put_frame(
+    panel: Panel,
+    registers: Registers,
+    memory: &[u8],
+    rom: &[u8],
+    frame: &mut [u8],
+    out: &mut [u8],
+    at: usize,
+) -> usize
+    requires { FrameReady panel registers memory.now rom.now frame.old out.old at }
+    ensures { TextPut out.old at (frame_lines panel (frame_of panel registers.display memory.now rom.now)) out.new result }
+{
+    paint(panel, registers, memory, rom, frame);
+    let lines = print_rows(panel, frame, &mut out[at..]);
+    at + lines
+}
+
+// What a run came to; on refusals 1 and 8 the first line only.
+fn put_ran(
+    panel: Panel,
+    ran: Ran,
+    memory: &[u8],
+    rom: &[u8],
+    answers: &[u8],
+    frame: &mut [u8],
+    out: &mut [u8],
+) -> usize
+    requires { TextReady panel ran memory.now rom.now answers.now frame.old out.old }
+    ensures text_put { TextPut out.old 0 (text_of panel rom.now (ran_all ran memory.now answers.now)) out.new result }
+    ensures upper_bound { result ≤ 196608 }
+{
+    let at = put_line(ran, out);
+    if (ran.number == 1) | (ran.number == 8) {
+        return at;
+    }
+    let next = put_answers(ran.answers, answers, out, at);
+    let registers = ran.registers;
+    let size = panel.frame_size();
+    put_frame(panel, registers, memory, rom, &mut frame[..size], out, next)
+}
+
+// The run of the input's log, from reset on fresh rooms.
+fn run_log(input: &[u8], memory: &mut [u8], rom: &[u8], answers: &mut [u8]) -> Ran
+    requires { (memory.old ≡ zeros 65536) × (rom.now ≡ characters) × (answers.old ≡ zeros 8192) }
+    ensures { ran_all result memory.new answers.new ≡ ran_in input.now }
+{
+    let panel = panel_in(input, false);
+    let log = log_in(input);
+    let registers = Registers::reset();
+    run_stopping(panel, registers, memory, rom, log, log.len() / 2, answers)
+}
+
+// The whole text at the start of `out`, its length and the run's number; 0 and 2 where the room has another length than 196,608.
+pub fn print(input: &[u8], out: &mut [u8]) -> Told
+    ensures { reported result out.new ≡ print_of input.now out.old }
+{
+    if out.len() == 196608 {
+        let mut memory = empty_memory();
+        let rom = character_rom();
+        let mut answers = no_answers();
+        let mut frame = [0u8; 20480];
+        let ran = run_log(input, &mut memory, &rom, &mut answers);
+        let panel = panel_in(input, false);
+        let count = put_ran(panel, ran, &memory, &rom, &answers, &mut frame, out);
+        Told {
+            count,
+            number: ran.number,
+        }
+    } else {
+        Told {
+            count: 0,
+            number: 2,
+        }
+    }
+}
