@@ -10,7 +10,7 @@ use contents::ask::{Asked, ask};
 use state::panel::Panel;
 
 // A number and place; where the body begins and ends, and the pairs of its operations, 0 where it was refused.
-#[derive(Drop)]
+#[derive(Clone, Copy)]
 pub struct Checked {
     pub number: u8,
     pub place: usize,

@@ -1,4 +1,6 @@
 // The operations of a screen, and a whole screen checked.
+#![tactic(auto)]
+
 pub mod check;
 pub mod operation;
 mod product;

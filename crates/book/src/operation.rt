@@ -11,7 +11,7 @@ use state::panel::Panel;
 use state::registers::Combination;
 
 // An operation; codes and rows stay in the book, at a byte of it.
-#[derive(Drop)]
+#[derive(Clone, Copy)]
 pub enum Placed {
     // line, column, where the codes stand, how many
     Text(u8, u8, usize, u8),
@@ -27,7 +27,7 @@ pub enum Placed {
 }
 
 // What reading finds: an operation and the byte behind it, the body's end, or an operation that is unknown, cut or out of range.
-#[derive(Drop)]
+#[derive(Clone, Copy)]
 pub enum Found {
     Operation(Placed, usize),
     End,

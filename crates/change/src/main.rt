@@ -1,13 +1,14 @@
 // The change program: a panel, the keys of two screens and a book from standard input; to standard output the pairs that turn the first
 // into the second on a controller that has just run the first one's stream, or to standard error its refusal. With an argument the panel
 // is in two halves.
+#![tactic(auto)]
+
 ghost use Rattle.std.specs.Prelude.{◌≡◌, length};
 
 use difference::write::write_change;
 use ground::bytes::{lesser, word};
-use libc::{STDERR_FILENO, STDIN_FILENO, STDOUT_FILENO};
 use printed::input::{byte_in, panel_in, rest_in};
-use report::{put_refusal, read_whole, report};
+use report::{STDERR_FILENO, STDOUT_FILENO, has_argument, put_refusal, read_whole, report};
 
 // The longest short stream: 24,064 bytes differ and there is a cursor.
 const MOST: usize = 120326;
@@ -44,12 +45,12 @@ fn change(dual: bool, input: &[u8]) {
 }
 
 // One byte past the limit shows that a book is too long.
-fn main() {
+fn main(rt: HostRuntime) {
     let mut input = [0u8; 32776];
-    let got = read_whole(STDIN_FILENO, &mut input);
+    let got = read_whole(&mut rt.stdin(), &mut input);
     if got.failed {
         return;
     }
     let end = got.count;
-    change(os::arg_count() > 1, &input[..end]);
+    change(has_argument(&rt, 1), &input[..end]);
 }

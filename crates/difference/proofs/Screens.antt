@@ -1,6 +1,6 @@
 -- The two screens: what their planes answered, and what is answered then.
 use mathlib.Core.Path.{◌≡◌, refl, ap, sym, subst, ◌∙◌}
-use mathlib.Core.Bool.{Bool, true, false, cond, not}
+use mathlib.Core.Bool.{Bool, true, false, cond}
 use mathlib.Core.List.{List}
 use mathlib.Core.Logic.{⊎_elim}
 use Prim.Native.Nat.{ℕ, ◌-◌, ◌*◌, ◌≤◌}
@@ -8,7 +8,7 @@ use native.Mathlib.Nat.{mul_assoc}
 use native.Mathlib.Omega.{arith}
 use lib.ListN.{length, take, replicate, length-replicate}
 use lib.Seq.{length-take-le}
-use borrow.Author.Tests.{eq-eqb, not-true, not-false}
+use borrow.Author.Tests.{eq-eqb}
 use Rattle.ground.proofs.Tests.{both}
 use Rattle.state.specs.declared.panel.Panel.{Panel}
 use Rattle.state.specs.declared.reply.Reply.{Reply}
@@ -178,12 +178,12 @@ module _ (p : Panel) (book : List ℕ) (a b : ℕ) (room : List ℕ) {v : Bool} 
   unfolding change_of
   by-panel t e = ap (λ (u : Bool). cond u (unless_asked room (asked_of book a) (unless_asked room (asked_of book b) screens)) (wrote 1 0 0 room)) (sym e ∙ i)
 
-  pub change-1 : not v ≡ true → wrote 1 0 0 room ≡ change_of p book a b room
-  change-1 e = by-panel false (not-true v e)
+  pub change-1 : v ≡ false → wrote 1 0 0 room ≡ change_of p book a b room
+  change-1 e = by-panel false e
 
-  module _ (e : not v ≡ false) where
+  module _ (e : v ≡ true) where
     pub change-valid : valid_panel p ≡ true
-    change-valid = sym i ∙ not-false v e
+    change-valid = sym i ∙ e
 
     -- by what was asked for
     unfound : (x : Asked) (on : Wrote) → (asked_number x ≡ 0 → ⊥) → wrote (asked_number x) (asked_place x) 0 room ≡ unless_asked room x on
@@ -199,13 +199,13 @@ module _ (p : Panel) (book : List ℕ) (a b : ℕ) (room : List ℕ) {v : Bool} 
       change-a nz =
           ap (λ (y : Reply). wrote y.number y.place 0 room) j
           ∙ unfound (asked_of book a) (unless_asked room (asked_of book b) screens) (λ z. nz (ap (λ (y : Reply). y.number) j ∙ z))
-          ∙ by-panel true (not-false v e)
+          ∙ by-panel true e
 
       module _ (z : r.number ≡ 0) where
         past-a : unless_asked room (asked_of book b) screens ≡ change_of p book a b room
         past-a =
             found a (asked_of book a) (unless_asked room (asked_of book b) screens) refl (sym (ap (λ (y : Reply). y.number) j) ∙ z)
-            ∙ by-panel true (not-false v e)
+            ∙ by-panel true e
 
         module _ {s : Reply} (l : s ≡ record { number = asked_number (asked_of book b); place = asked_place (asked_of book b) }) where
           pub change-b : (s.number ≡ 0 → ⊥) → wrote s.number s.place 0 room ≡ change_of p book a b room

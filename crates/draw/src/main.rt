@@ -1,17 +1,18 @@
 // The draw program: a panel, a screen's key, a phase and a book from standard input; to standard output the screen's refusal and its
 // picture. Started with an argument it takes the character ROM before them, with a second one the panel is in two halves.
+#![tactic(auto)]
+
 ghost use Rattle.std.specs.Prelude.{◌≡◌, length};
 ghost use Rattle.printed.specs.Printed.{panel_in, reported};
 ghost use Rattle.draw.specs.Drawing.{draw_text_of, PlanesCut};
 
 use contents::bytes::word_at;
-use libc::{STDIN_FILENO, STDOUT_FILENO};
 use painter::draw::draw;
 use printed::fill::character_rom;
 use printed::input::{byte_in, panel_in, rest_in};
 use printed::screen::print_picture;
 use printed::told::Told;
-use report::{read_rom, read_whole, report};
+use report::{STDOUT_FILENO, has_argument, read_rom, read_whole, report};
 use state::panel::Panel;
 
 // A screen's picture as text, drawn in planes and a frame of its panel's lengths; in the phase that is off where its byte is 0.
@@ -69,20 +70,19 @@ fn draw_text(dual: bool, rom: &[u8], input: &[u8], out: &mut [u8]) -> Told
 }
 
 // One byte past the limit shows that a book is too long.
-fn main() {
-    let words = os::arg_count();
+fn main(rt: HostRuntime) {
     let mut rom = character_rom();
-    if !read_rom(words > 1, &mut rom) {
+    if !read_rom(&mut rt.stdin(), has_argument(&rt, 1), &mut rom) {
         return;
     }
     let mut input = [0u8; 32775];
-    let got = read_whole(STDIN_FILENO, &mut input);
+    let got = read_whole(&mut rt.stdin(), &mut input);
     if got.failed {
         return;
     }
     let end = got.count;
     let mut out = [0u8; 196608];
-    let told = draw_text(words > 2, &rom, &input[..end], &mut out);
+    let told = draw_text(has_argument(&rt, 2), &rom, &input[..end], &mut out);
     let count = told.count;
     if io::write_all(STDOUT_FILENO, &out[..count]) {
         report(told.number);

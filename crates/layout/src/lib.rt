@@ -1,4 +1,6 @@
 // Books laid out anew: moved from one form to the other, or saved where they are torn.
+#![tactic(auto)]
+
 mod lay;
 pub mod moves;
 mod put;

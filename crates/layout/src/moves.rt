@@ -11,7 +11,7 @@ use contents::open::{Spans, open};
 use state::panel::Panel;
 
 // A number and place, and the bytes of the moved book, 0 where it was refused.
-#[derive(Drop)]
+#[derive(Clone, Copy)]
 pub struct Moved {
     pub number: u8,
     pub place: usize,

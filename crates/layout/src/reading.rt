@@ -10,7 +10,7 @@ use state::panel::Panel;
 use state::registers::Combination;
 
 // A body that can be read, one that uses AND, or the byte of its first faulty operation.
-#[derive(Drop)]
+#[derive(Clone, Copy)]
 pub(crate) enum BodyRead {
     Plain,
     And,
@@ -18,7 +18,7 @@ pub(crate) enum BodyRead {
 }
 
 // All of them, the first screen that uses AND, or the byte of the first faulty operation.
-#[derive(Drop)]
+#[derive(Clone, Copy)]
 pub(crate) enum BodiesRead {
     Plain,
     And(usize),

@@ -12,7 +12,7 @@ use state::panel::Panel;
 
 // A number and place, the bytes of the saved book, and of each of its screens the bytes kept and dropped. 64 of each, 0 behind the count;
 // all of it 0 where it was refused.
-#[derive(Drop)]
+#[derive(Clone, Copy)]
 pub struct Salvaged {
     pub number: u8,
     pub place: usize,
@@ -23,7 +23,7 @@ pub struct Salvaged {
 }
 
 // Where each body's good operations end, and the bytes kept and dropped of it.
-#[derive(Drop)]
+#[derive(Clone, Copy)]
 pub(crate) struct Tables {
     ends: [usize; 64],
     kept: [usize; 64],

@@ -1,10 +1,11 @@
 // The mover: a direction, C, L, w and a book from standard input; to standard output the book in the other form, or to standard error its
 // refusal. With an argument the panel is in two halves.
+#![tactic(auto)]
+
 use contents::bytes::byte_at;
 use ground::bytes::lesser;
 use layout::moves::{Moved, move_down, move_up};
-use libc::{STDERR_FILENO, STDIN_FILENO, STDOUT_FILENO};
-use report::{put_refusal, read_whole, report};
+use report::{STDERR_FILENO, STDOUT_FILENO, has_argument, put_refusal, read_whole, report};
 use state::panel::Panel;
 
 // C, L, w behind the direction; a missing byte is 0.
@@ -28,15 +29,15 @@ fn moved(dual: bool, input: &[u8], out: &mut [u8]) -> Moved {
 }
 
 // One byte past the limit shows that a book is too long; no moved book is longer than the output.
-fn main() {
+fn main(rt: HostRuntime) {
     let mut input = [0u8; 32773];
-    let got = read_whole(STDIN_FILENO, &mut input);
+    let got = read_whole(&mut rt.stdin(), &mut input);
     if got.failed {
         return;
     }
     let end = got.count;
     let mut out = [0u8; 32768];
-    let dual = os::arg_count() > 1;
+    let dual = has_argument(&rt, 1);
     let moved = moved(dual, &input[..end], &mut out);
     if moved.number != 0 {
         if put_refusal(STDERR_FILENO, moved.number, moved.place) {

@@ -7,7 +7,7 @@ ghost use Rattle.order.specs.Swapping.{placed_number, placed_area};
 use book::operation::Placed;
 use state::panel::Panel;
 
-#[derive(Drop)]
+#[derive(Clone, Copy)]
 pub(crate) struct Area {
     pub top: usize,
     pub left: usize,

@@ -1,3 +1,5 @@
 // Neighbours in a screen whose order doesn't show.
+#![tactic(auto)]
+
 mod area;
 pub mod swap;

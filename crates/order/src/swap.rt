@@ -13,7 +13,7 @@ use book::operation::{Found, Placed, read};
 use state::panel::Panel;
 
 // They may, they may not, there are no such two operations, or number and place.
-#[derive(Drop)]
+#[derive(Clone, Copy)]
 pub enum Swap {
     May,
     Stays,

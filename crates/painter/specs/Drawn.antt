@@ -19,7 +19,7 @@ abbrev pub drew_all : Reply → List ℕ → List ℕ → List ℕ → List ℕ 
 drew_all reply graphic codes glyphs frame =
     record { reply = reply; graphic = graphic; codes = codes; glyphs = glyphs; frame = frame }
 
--- lent: character ROM of exactly 1,024 bytes, planes of exactly C·8L, C-as-L and 1,024
+-- lent: character ROM of exactly 1,024 bytes, planes of exactly C·8L, C·L and 1,024
 abbrev pub planes_fit : Panel → List ℕ → List ℕ → List ℕ → List ℕ → Bool
 planes_fit p rom graphic codes glyphs =
     eqb (length rom) 1024 && eqb (length graphic) (8 * p.lines * p.columns) && eqb (length codes) (p.lines * p.columns)

@@ -15,7 +15,7 @@ use Rattle.picture.specs.Layers.{plane_text, plane_graphic}
 use Rattle.picture.specs.declared.cursor.Laid.{Laid}
 use Rattle.picture.specs.declared.cursor.Laid.TheVariants.{Nowhere, Over}
 
--- planes of C·8L graphic bytes, C-as-L text codes and 1,024 glyph bytes; the combination; the cursor
+-- planes of C·8L graphic bytes, C·L text codes and 1,024 glyph bytes; the combination; the cursor
 pub record Picture : Type 0 where
   pub graphic : List ℕ
   pub codes : List ℕ

@@ -26,7 +26,7 @@ abbrev pub pictured : Picture → Plan
 pictured a =
     planned_all (record { number = 0; place = 0; combination = a.combination; cursor = a.cursor }) a.graphic a.codes a.glyphs
 
--- planes of exactly C·8L, C-as-L and 1,024
+-- planes of exactly C·8L, C·L and 1,024
 abbrev pub areas_fit : Panel → List ℕ → List ℕ → List ℕ → Bool
 areas_fit p graphic codes glyphs =
     eqb (length graphic) (8 * p.lines * p.columns) && eqb (length codes) (p.lines * p.columns) && eqb (length glyphs) 1024

@@ -12,7 +12,7 @@ abbrev pub picture_with : List ℕ → List ℕ → List ℕ → Style → Pictu
 picture_with graphic codes glyphs s =
     record { graphic = graphic; codes = codes; glyphs = glyphs; combination = s.combination; cursor = s.cursor }
 
--- planes of C·8L, C-as-L and 1,024 bytes
+-- planes of C·8L, C·L and 1,024 bytes
 abbrev pub graphic_bytes : Panel → ℕ
 graphic_bytes p = 8 * p.lines * p.columns
 

@@ -5,7 +5,7 @@ ghost use Rattle.picture.specs.Picture.{lit_in};
 use state::registers::Cursor;
 
 // None, or a cursor that blinks or does not: its column for X, its line for Y.
-#[derive(Drop)]
+#[derive(Clone, Copy)]
 pub enum Laid {
     Nowhere,
     Over(Cursor, bool),

@@ -1,4 +1,6 @@
 // A screen of a book becomes planes, with no register in sight.
+#![tactic(auto)]
+
 mod apply;
 pub mod cursor;
 pub mod plan;

@@ -9,7 +9,7 @@ use state::panel::Panel;
 use state::registers::Combination;
 
 // A number and place; OR and no cursor where it was refused.
-#[derive(Drop)]
+#[derive(Clone, Copy)]
 pub struct Planned {
     pub number: u8,
     pub place: usize,

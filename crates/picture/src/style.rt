@@ -2,7 +2,7 @@
 use super::cursor::Laid;
 use state::registers::Combination;
 
-#[derive(Drop)]
+#[derive(Clone, Copy)]
 pub struct Style {
     pub combination: Combination,
     pub cursor: Laid,

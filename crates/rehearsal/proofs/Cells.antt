@@ -17,7 +17,7 @@ use Rattle.display.specs.Displayed.{cursor_lit, cursor_covers, cell_byte}
 use Rattle.state.specs.Combination.{combined}
 use Rattle.display.specs.Frame.{frame_of}
 use Rattle.display.proofs.Painted.{frame-by-rule}
-use Rattle.display.proofs.Plain.{plain, plain_glyph, cell-plain}
+use Rattle.display.proofs.Plain.{plain_glyph, cell-plain}
 use Rattle.effects.specs.Effect.{with_phase}
 use Rattle.writer.specs.Homes.{graphic_home, text_home, glyph_home}
 use Rattle.state.proofs.Halves.{y-same}

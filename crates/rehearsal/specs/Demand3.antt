@@ -15,7 +15,7 @@ use Rattle.writer.specs.Stream.{count_of}
 use Rattle.writer.specs.Written.{write_of}
 use Rattle.picture.specs.Picture.{Picture, picture_of, picture_frame}
 
--- the three areas are those cleared, from their homes: C·8L bytes, C-as-L, 1,024 to the memory's end
+-- the three areas are those cleared, from their homes: C·8L bytes, C·L, 1,024 to the memory's end
 abbrev pub in_areas : Panel → ℕ → Bool
 in_areas p i =
     ltb i (graphic_home + 8 * p.lines * p.columns) || (leb (text_home p) i && ltb i (text_home p + p.lines * p.columns)) || leb glyph_home i

@@ -9,7 +9,7 @@ use state::registers::Registers;
 use writer::write::write;
 
 // A number and place, the pairs run, and the registers then.
-#[derive(Drop)]
+#[derive(Clone, Copy)]
 pub struct Rehearsed {
     pub number: u8,
     pub place: usize,

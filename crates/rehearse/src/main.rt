@@ -1,18 +1,19 @@
 // The rehearse program: a panel, a screen's key and a book from standard input; to standard output what running the screen's stream from
 // reset came to, and the frame. Started with an argument it takes the character ROM before them.
+#![tactic(auto)]
+
 ghost use Rattle.std.specs.Prelude.{◌≡◌, length};
 ghost use Rattle.printed.specs.Printed.{panel_in, reported};
 ghost use Rattle.state.specs.Sizes.{frame_size, valid_size};
 ghost use Rattle.rehearse.specs.Rehearsing.{rehearse_text_of};
 
 use contents::bytes::word_at;
-use libc::{STDIN_FILENO, STDOUT_FILENO};
 use printed::fill::{character_rom, empty_memory};
 use printed::input::{byte_in, panel_in, rest_in};
 use printed::screen::print_rehearsal;
 use printed::told::Told;
 use rehearsal::rehearse::rehearse;
-use report::{read_rom, read_whole, report};
+use report::{STDOUT_FILENO, has_argument, read_rom, read_whole, report};
 use state::panel::Panel;
 use state::registers::Registers;
 
@@ -78,20 +79,19 @@ fn rehearse_text(dual: bool, rom: &[u8], input: &[u8], out: &mut [u8]) -> Told
 }
 
 // One byte past the limit shows that a book is too long.
-fn main() {
-    let words = os::arg_count();
+fn main(rt: HostRuntime) {
     let mut rom = character_rom();
-    if !read_rom(words > 1, &mut rom) {
+    if !read_rom(&mut rt.stdin(), has_argument(&rt, 1), &mut rom) {
         return;
     }
     let mut input = [0u8; 32774];
-    let got = read_whole(STDIN_FILENO, &mut input);
+    let got = read_whole(&mut rt.stdin(), &mut input);
     if got.failed {
         return;
     }
     let end = got.count;
     let mut out = [0u8; 196608];
-    let told = rehearse_text(words > 2, &rom, &input[..end], &mut out);
+    let told = rehearse_text(has_argument(&rt, 2), &rom, &input[..end], &mut out);
     let count = told.count;
     if io::write_all(STDOUT_FILENO, &out[..count]) {
         report(told.number);

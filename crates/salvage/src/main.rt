@@ -1,11 +1,14 @@
 // The salvage program: C, L, w and a book from standard input; to standard output the saved book, and to standard error the bytes kept and
 // dropped of each screen, or the refusal. With an argument the panel is in two halves.
+#![tactic(auto)]
+
 use contents::bytes::byte_at;
 use contents::open::open;
 use ground::bytes::lesser;
 use layout::saving::{Salvaged, salvage};
-use libc::{STDERR_FILENO, STDIN_FILENO, STDOUT_FILENO};
-use report::{put_field_to, put_refusal, read_whole, report};
+use report::{
+    STDERR_FILENO, STDOUT_FILENO, has_argument, put_field_to, put_refusal, read_whole, report,
+};
 use state::panel::Panel;
 
 // C, L, w; a missing byte is 0.
@@ -41,14 +44,14 @@ fn put_report(book: &[u8], salvaged: Salvaged) -> bool {
 }
 
 // One byte past the limit shows that a book is too long; no saved book is longer than the output.
-fn main() {
+fn main(rt: HostRuntime) {
     let mut input = [0u8; 32772];
-    let got = read_whole(STDIN_FILENO, &mut input);
+    let got = read_whole(&mut rt.stdin(), &mut input);
     if got.failed {
         return;
     }
     let end = got.count;
-    let panel = panel_in(&input[..end], os::arg_count() > 1);
+    let panel = panel_in(&input[..end], has_argument(&rt, 1));
     let mut out = [0u8; 32768];
     let salvaged = salvage(panel, book_in(&input[..end]), &mut out);
     if salvaged.number != 0 {

@@ -1,11 +1,12 @@
 // The screens program: C, L, w and a book from standard input; to standard output its form, its screens and their operations, or its refusal.
 // With an argument the panel is in two halves.
+#![tactic(auto)]
+
 use book::operation::{Found, Placed, read};
 use contents::bytes::byte_at;
 use contents::open::{Spans, open};
 use ground::bytes::lesser;
-use libc::{STDIN_FILENO, STDOUT_FILENO};
-use report::{put_field, put_refusal, read_whole, report};
+use report::{STDOUT_FILENO, has_argument, put_field, put_refusal, read_whole, report};
 use state::panel::Panel;
 use state::registers::Combination;
 
@@ -118,15 +119,15 @@ fn panel_in(input: &[u8], dual: bool) -> Panel {
 }
 
 // 1 where the panel is not valid, then 9; a faulty operation is listed and refuses nothing.
-fn main() {
+fn main(rt: HostRuntime) {
     let mut input = [0u8; 32772];
-    let got = read_whole(STDIN_FILENO, &mut input);
+    let got = read_whole(&mut rt.stdin(), &mut input);
     if got.failed {
         return;
     }
     let end = got.count;
     let start = lesser(3, end);
-    let panel = panel_in(&input, os::arg_count() > 1);
+    let panel = panel_in(&input, has_argument(&rt, 1));
     if !panel.valid() {
         if put_refusal(STDOUT_FILENO, 1, 0) {
             report(1);

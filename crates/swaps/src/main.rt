@@ -1,15 +1,16 @@
 // The swaps program: a panel, a screen's key and a book from standard input; to standard output its refusal, then for each operation and the
 // one behind it whether they may change places. With an argument the panel is in two halves.
+#![tactic(auto)]
+
 use book::check::check;
 use ground::bytes::word;
-use libc::{STDIN_FILENO, STDOUT_FILENO};
 use order::swap::{Swap, may_swap};
 use printed::input::{byte_in, panel_in, rest_in};
-use report::{put_field, put_refusal, read_whole, report};
+use report::{STDOUT_FILENO, has_argument, put_field, put_refusal, read_whole, report};
 use state::panel::Panel;
 
 // Whether there may be more lines, and whether this one was written.
-#[derive(Drop)]
+#[derive(Clone, Copy)]
 struct Line {
     more: bool,
     whole: bool,
@@ -64,15 +65,15 @@ fn show(panel: Panel, book: &[u8], key: usize, number: u8, place: usize) -> bool
 }
 
 // One byte past the limit shows that a book is too long.
-fn main() {
+fn main(rt: HostRuntime) {
     let mut input = [0u8; 32774];
-    let got = read_whole(STDIN_FILENO, &mut input);
+    let got = read_whole(&mut rt.stdin(), &mut input);
     if got.failed {
         return;
     }
     let end = got.count;
     let all = &input[..end];
-    let panel = panel_in(all, os::arg_count() > 1);
+    let panel = panel_in(all, has_argument(&rt, 1));
     let key = word(byte_in(all, 3), byte_in(all, 4)) as usize;
     let book = rest_in(all, 5);
     let checked = check(panel, book, key);

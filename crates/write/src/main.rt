@@ -1,19 +1,20 @@
 // The write program: a panel, a screen's key and a book from standard input; to standard output the log that shows the screen, or
 // to standard error its refusal. With an argument the panel is in two halves.
+#![tactic(auto)]
+
 ghost use Rattle.std.specs.Prelude.{◌≡◌, true, length};
 ghost use Rattle.printed.specs.Printed.{printed, refusal_line, print_text};
 ghost use Rattle.write.specs.Writing.{given_in, write_given_of};
 
 use contents::bytes::word_at;
-use libc::{STDERR_FILENO, STDIN_FILENO, STDOUT_FILENO};
 use printed::input::{byte_in, panel_in, rest_in};
 use printed::screen::print_picture;
-use report::{read_whole, report};
+use report::{STDERR_FILENO, STDOUT_FILENO, has_argument, read_whole, report};
 use state::panel::Panel;
 use writer::write::write;
 
 // How many bytes go to standard output and to standard error, and the refusal number.
-#[derive(Drop)]
+#[derive(Clone, Copy)]
 struct Lengths {
     output: usize,
     error: usize,
@@ -71,16 +72,16 @@ fn write_both(dual: bool, input: &[u8], out: &mut [u8], error: &mut [u8]) -> Len
 }
 
 // One byte past the limit shows that a book is too long.
-fn main() {
+fn main(rt: HostRuntime) {
     let mut input = [0u8; 32774];
-    let got = read_whole(STDIN_FILENO, &mut input);
+    let got = read_whole(&mut rt.stdin(), &mut input);
     if got.failed {
         return;
     }
     let end = got.count;
     let mut out = empty_room();
     let mut error = [0u8; 196608];
-    let dual = os::arg_count() > 1;
+    let dual = has_argument(&rt, 1);
     let given = write_both(dual, &input[..end], &mut out, &mut error);
     let output = given.output;
     let line = given.error;

@@ -1,13 +1,14 @@
 // The write_asking program: a panel, a screen's key and a book from standard input; to standard output the log that shows the screen and
 // reads status before each write, or to standard error its refusal. With an argument the panel is in two halves.
+#![tactic(auto)]
+
 ghost use Rattle.std.specs.Prelude.{◌≡◌, length};
 
 use asking::asking::write_asking;
 use contents::bytes::word_at;
 use ground::bytes::lesser;
-use libc::{STDERR_FILENO, STDIN_FILENO, STDOUT_FILENO};
 use printed::input::{byte_in, panel_in, rest_in};
-use report::{put_refusal, read_whole, report};
+use report::{STDERR_FILENO, STDOUT_FILENO, has_argument, put_refusal, read_whole, report};
 
 // The pairs that there is room for.
 const MOST: usize = 1048576;
@@ -50,12 +51,12 @@ fn write_input(dual: bool, input: &[u8]) {
 }
 
 // One byte past the limit shows that a book is too long.
-fn main() {
+fn main(rt: HostRuntime) {
     let mut input = [0u8; 32774];
-    let got = read_whole(STDIN_FILENO, &mut input);
+    let got = read_whole(&mut rt.stdin(), &mut input);
     if got.failed {
         return;
     }
     let end = got.count;
-    write_input(os::arg_count() > 1, &input[..end]);
+    write_input(has_argument(&rt, 1), &input[..end]);
 }

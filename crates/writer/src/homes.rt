@@ -4,7 +4,7 @@ ghost use Rattle.writer.specs.Homes.{text_home};
 
 use state::panel::Panel;
 
-#[derive(Drop)]
+#[derive(Clone, Copy)]
 pub struct Homes {}
 
 impl Homes {

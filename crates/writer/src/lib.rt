@@ -1,4 +1,6 @@
 // A screen of a book becomes a stream of pairs.
+#![tactic(auto)]
+
 pub mod homes;
 mod opening;
 mod put;

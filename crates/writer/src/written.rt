@@ -1,7 +1,7 @@
 // What writing a screen answers.
 
 // A number and place, and the pairs written.
-#[derive(Drop)]
+#[derive(Clone, Copy)]
 pub struct Written {
     pub number: u8,
     pub place: usize,

@@ -1,0 +1,11 @@
+-- `put_pair` meets its contract: two stores.
+use lib.ListN.{length-set}
+use native.Mathlib.Omega.{arith}
+use Rattle.writer.proofs.Puts.{put-pair}
+use Rattle.difference.proofs.put.put_pair.Goals as goal
+
+pub bounds-room-at-2 : goal.bounds-room-at-2
+bounds-room-at-2 c = simp length-set (omega arith)
+
+pub returns : goal.returns
+returns c = put-pair c.args.room.now c.args.at c.args.kind c.args.byte
