@@ -1,5 +1,5 @@
-/* The T6963C for C and C++, for x86-64: link target/staticlib/libboundary.a, which `rt staticlib boundary` proves and writes. Calls that
-   follow rows are in libfollowing.a, by `rt staticlib following`, the one that asks who wrote in libwriting.a, by `rt staticlib writing`.
+/* The T6963C for C and C++, for x86-64: link libboundary.a, which `rt lib` in crates/boundary proves and writes. Calls that
+   follow rows are in libfollowing.a, by `rt lib` in crates/following, the one that asks who wrote in libwriting.a, in crates/writing.
    docs/C.md has the steps and an example, docs/RULES.md the controller's rules, docs/NUMBERS.md what to do about a number.
 
    Every call answers every input, and keeps nothing between calls: all state is in the buffers lent. A buffer is a pointer, not null, and

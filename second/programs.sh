@@ -38,7 +38,7 @@ compile() {
 
 # built PROGRAM: a proved one, which is not built here
 built() {
-    [ -x "$root/target/bin/$1" ] || fail "target/bin/$1 is missing: 'rt check $1' builds it"
+    [ -x "$root/target/bin/$1" ] || fail "target/bin/$1 is missing: the command that runs it builds it, and so does ./test"
 }
 
 # widened PROGRAM: $work/in as the proved program has it: a screen's number is one byte in the second ones, and two there; with `lift` set

@@ -39,7 +39,7 @@ stop() {
 find_kit() {
     command -v rt >/dev/null 2>&1 || fail "'rt', the Rattle kit's command, is not on PATH"
     machine=$(uname -m)
-    tools=$(dirname "$(dirname "$(readlink -f "$(command -v rt)")")")/on/$machine/toolchain
+    tools=$(dirname "$(dirname "$(readlink -f "$(command -v rt)")")")/toolchain
 }
 
 # find_runner PROGRAM: what runs it. An x86-64 machine needs nothing of the kit; another needs its emulator, which may be the one noted.
@@ -55,6 +55,15 @@ find_runner() {
         fail "programs are x86-64, this machine is $machine: it takes the Rattle kit's emulator, and 'rt', the kit's command, is not on PATH"
 }
 
+# programs: each that there is
+programs() {
+    for main in "$root"/crates/*/src/main.rt; do
+        crate=${main%/src/main.rt}
+        crate=${crate##*/}
+        if [ "$crate" = log_program ]; then echo log; else echo "$crate"; fi
+    done
+}
+
 # run PROGRAM [WORD..]: programs are x86-64, and run through the kit's emulator elsewhere
 run() {
     program=$1
@@ -66,10 +75,16 @@ run() {
     fi
 }
 
+# crate_of PROGRAM: the crate that it is; the kit has a library named log
+crate_of() {
+    if [ "$1" = log ]; then echo log_program; else echo "$1"; fi
+}
+
 # below PROGRAM: the crates that it is made of, itself first
 below() {
-    echo "$1"
-    sed -n "s/^$1://p" "$root/crates.txt" | tr ' ' '\n' | while read -r crate; do
+    of=$(crate_of "$1")
+    echo "$of"
+    sed -n "s/^$of://p" "$root/crates.txt" | tr ' ' '\n' | while read -r crate; do
         [ ! -d "$root/crates/$crate/src" ] || [ -z "$crate" ] || echo "$crate"
     done
 }
@@ -109,7 +124,7 @@ build() {
         command -v $tool >/dev/null 2>&1 || fail "the $1 program is $state, and '$tool', which a build needs, is missing"
     done
     lock=$root/target/lock
-    mkdir -p "$root/target/kit" "$root/target/log" 2>/dev/null
+    mkdir -p "$root/target/bin" "$root/target/kit" "$root/target/log" 2>/dev/null
     # a folder of another user, a file system that is read-only or full
     if ! (: >>"$lock" && [ -w "$root/target/kit" ] && [ -w "$root/target/log" ]) 2>/dev/null; then
         [ "$state" != current ] || return 0
@@ -133,8 +148,8 @@ build() {
     exec 9>&-
 }
 
-# prove PROGRAM: by the kit, with a line for each crate and what the prover says in target/log. rt leaves a program alone that has not
-# changed, so its time is set here, to when this began.
+# prove PROGRAM: by the kit, with a line for each crate and what the prover says in target/log. rt also runs it, on the crate's own input,
+# and it must write what it must. It is then put into target/bin, with the time when this began.
 prove() {
     count=$(($(below "$1" | wc -l)))
     [ "$state" = current ] || say "proving and building the $1 program, which is $state: $count crates, the first time some minutes"
@@ -142,29 +157,45 @@ prove() {
     talk=$work/talk
     { true >"$began" && mkfifo "$talk"; } 2>/dev/null || fail "'$root/target' or '$work' can't be written"
     told "$root/target/log/$1.build" <"$talk" &
-    # rt waits for all that it has started before it starts more: with four at a time fewer processors wait
-    (cd "$root" && exec env RT_JOBS="${RT_JOBS:-4}" setsid rt check "$1" </dev/null >"$talk" 2>&1) &
+    made=$root/crates/$(crate_of "$1")
+    (cd "$made" && exec setsid rt run <stdin 2>"$talk" >"$work/ran") &
     child=$!
     wait "$child"
     proved=$?
     wait
     child=
     rm -f "$talk"
-    [ "$proved" = 0 ] || fail "the $1 program was not proved and built; target/log/$1.build has all that was said"
+    [ "$proved" = 0 ] && cmp -s "$work/ran" "$made/stdout" ||
+        fail "the $1 program was not proved and built; target/log/$1.build has all that was said"
     find_kit
-    note=$root/target/kit/$1
-    { rt version && echo "$tools"; } >"$note.new" && mv -f "$note.new" "$note" && touch -r "$began" "$root/target/bin/$1" ||
-        fail "'$root/target' can't be written"
+    put "$1" && note "$1" && touch -r "$began" "$root/target/bin/$1" || fail "'$root/target' can't be written"
     rm -f "$began"
+}
+
+# put PROGRAM: what rt built of it into target/bin, from where it can be run while it is replaced
+put() {
+    mkdir -p "$root/target/bin" && cp -- "$root/crates/$(crate_of "$1")/out/$(crate_of "$1")" "$root/target/bin/$1.new" &&
+        mv -f -- "$root/target/bin/$1.new" "$root/target/bin/$1"
+}
+
+# note PROGRAM: the kit that made it
+note() {
+    { rt version && echo "$tools"; } >"$root/target/kit/$1.new" && mv -f "$root/target/kit/$1.new" "$root/target/kit/$1"
 }
 
 # told FILE: of what rt says, the crates and their seconds; all of it into the file
 told() {
+    since=$(date +%s)
     while IFS= read -r line; do
         printf '%s\n' "$line" >&8
         case $line in
-        'rt: '*'unchanged since it was last proved)' | 'rt: ok, '* | 'rt: '*" ran"*) ;;
-        'rt: '*) say "${line#rt: }" ;;
+        'crate '*) crate=${line#crate } && crate=${crate%%:*} ;;
+        logic=*)
+            now=$(date +%s)
+            case $line in logic=proved*) how=proved ;; *) how='NOT PROVED' ;; esac
+            say "$crate $how ($((now - since)) s)"
+            since=$now
+            ;;
         esac
     done 8>"$1"
 }
@@ -173,8 +204,9 @@ told() {
 library() {
     archive=$root/target/staticlib/lib$1.a
     mkdir -p "$root/target/log" && exec 7>>"$root/target/library" && flock 7 || fail "'$root/target' can't be written"
-    if [ ! -f "$archive" ] || [ -n "$(find "$root/crates" "$root/crates.txt" -newer "$archive" -print | head -n 1)" ]; then
-        (cd "$root" && rt staticlib "$1") </dev/null >"$root/target/log/$1.library" 2>&1 ||
+    if [ ! -f "$archive" ] || [ -n "$(find "$root"/crates/*/src "$root"/crates/*/specs "$root"/crates/*/proofs "$root/crates.txt" -newer "$archive" -print 2>/dev/null | head -n 1)" ]; then
+        (cd "$root/crates/$1" && rt lib && mkdir -p "$root/target/staticlib" && cp "out/lib$1.a" "$archive") \
+            </dev/null >"$root/target/log/$1.library" 2>&1 ||
             { tail -n 5 "$root/target/log/$1.library" >&2; fail "$archive was not proved and made"; }
     fi
     exec 7>&-
