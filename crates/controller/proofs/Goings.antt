@@ -1,5 +1,5 @@
-use Rattle.std.proofs.Common.{zero}
 -- A run pair by pair, over any step and any property that it keeps: what is left from here comes to the whole.
+use Rattle.std.proofs.Common.{zero}
 use mathlib.Core.Path.{◌≡◌, refl, ap, sym, subst, ◌∙◌}
 use mathlib.Core.Bool.{Bool, true, false, cond}
 use mathlib.Core.List.{List, [], ◌∷◌}

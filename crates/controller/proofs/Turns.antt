@@ -1,5 +1,5 @@
-use Rattle.std.proofs.Common.{zero}
 -- One turn of a run: which steps answer, that a refusal's number is 3 to 7, and what the code's turn comes to.
+use Rattle.std.proofs.Common.{zero}
 use mathlib.Core.Path.{◌≡◌, refl, ap, sym, subst, ◌∙◌}
 use mathlib.Core.Logic.{◌⊎◌, inl, inr}
 use mathlib.Core.Bool.{Bool, true, false, cond, ◌||◌, true≢false}

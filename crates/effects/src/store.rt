@@ -1,5 +1,5 @@
 // What a command does at the pointer.
-ghost use Rattle.std.specs.Prelude.{◌≡◌, set, slice_index, slice_set};
+ghost use Rattle.std.specs.Prelude.{◌≡◌, slice_index, slice_set};
 ghost use Rattle.ground.specs.Bytes.{with_bit};
 ghost use Rattle.effects.specs.Effect.{with_pointer, with_latch, moved_of};
 

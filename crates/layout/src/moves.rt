@@ -61,13 +61,16 @@ fn numbered(spans: Spans) -> bool
     true
 }
 
+// The most bytes of a book.
+const LONGEST_BOOK: usize = 32768;
+
 // The book in form two, where it is short enough.
 fn fit_up(spans: Spans, book: &[u8], out: &mut [u8]) -> Moved
     requires { Spanned spans (length book.now) }
     ensures { moved_all result out.new ≡ fitted_up (laid_out true (kept_in spans book.now)) out.old }
 {
     let size = laid_size(true, spans);
-    if 32768 < size {
+    if LONGEST_BOOK < size {
         return refuse(18, size);
     }
     fit(true, spans, book, out)

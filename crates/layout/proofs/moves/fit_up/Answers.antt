@@ -7,13 +7,13 @@ use Rattle.layout.proofs.moves.fit_up.Goals as goal
 pub laid_size-size-requires : goal.laid_size-size-requires
 laid_size-size-requires c = spanned-wide c.requires
 
-pub returns-then-size-gt32768 : goal.returns-then-size-gt32768
-returns-then-size-gt32768 c = let s = c.args in
-    up-long s.book.now s.out.now c.requires c.laid_size-size.ensures c.if-size-gt32768.true c.refuse.ensures
+pub returns-then-size-gt-LONGEST_BOOK : goal.returns-then-size-gt-LONGEST_BOOK
+returns-then-size-gt-LONGEST_BOOK c = let s = c.args in
+    up-long s.book.now s.out.now c.requires c.laid_size-size.ensures c.if-size-gt-LONGEST_BOOK.true c.refuse.ensures
 
 pub fit-requires : goal.fit-requires
-fit-requires c = (c.requires, omega (arith, c.laid_size-size.ensures, c.if-size-gt32768.false))
+fit-requires c = (c.requires, omega (arith, c.laid_size-size.ensures, c.if-size-gt-LONGEST_BOOK.false))
 
 pub returns : goal.returns
 returns c = let s = c.args in
-    up_fits s.book.now s.out.now c.requires c.laid_size-size.ensures c.if-size-gt32768.false c.fit.ensures
+    up_fits s.book.now s.out.now c.requires c.laid_size-size.ensures c.if-size-gt-LONGEST_BOOK.false c.fit.ensures
