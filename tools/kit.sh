@@ -158,7 +158,7 @@ prove() {
     { true >"$began" && mkfifo "$talk"; } 2>/dev/null || fail "'$root/target' or '$work' can't be written"
     told "$root/target/log/$1.build" <"$talk" &
     made=$root/crates/$(crate_of "$1")
-    (cd "$made" && exec setsid rt run <stdin 2>"$talk" >"$work/ran") &
+    ({ cd "$made" && exec setsid rt run <stdin >"$work/ran"; } 2>"$talk") &
     child=$!
     wait "$child"
     proved=$?
