@@ -20,7 +20,8 @@ pub fn refresh(
     ensures { refreshed result frame.new flags.new ≡ refresh_of panel registers mem.now rom.now frame.old flags.old }
 {
     let reply = paint_flagged(panel, registers, mem, rom, flags, frame);
-    if reply.number == 0 {
+    let accepted = reply.number == 0;
+    if accepted {
         clear(flags);
     }
     reply
