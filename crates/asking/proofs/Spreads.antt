@@ -2,7 +2,7 @@
 use mathlib.Core.Path.{◌≡◌, refl, sym, ap, ◌∙◌}
 use mathlib.Core.List.{List, [], ◌∷◌}
 use mathlib.Core.Logic.{◌⊎◌, inl, inr}
-use Prim.Native.Nat.{ℕ, zero, suc, ◌+◌, ◌*◌, ◌/◌, ◌<◌, ◌≤◌}
+use Prim.Native.Nat.{ℕ, zero, suc, ◌+◌, ◌-◌, ◌*◌, ◌/◌, ◌<◌, ◌≤◌}
 use native.Mathlib.Decide.{ℕ_discrete, dec_lt}
 use native.Mathlib.Omega.{arith}
 use lib.ListN.{length, get_or, set, drop, length-set, get_or-append}
@@ -215,24 +215,13 @@ spread-asks l qs h = ext_get_or 0 _ _ (x.long ∙ length-sets l 0 (log_of qs) �
     at i (no m) =
         x.rest i (omega arith) ∙ sets_behind (log_of qs) l 0 i (omega (arith, plain)) ∙ sym (sets_behind (log_of (asked_pairs qs)) l 0 i (omega (arith, doubled)))
 
--- pairs yet to be spread, in a loop
-pub record Spreading (a : List ℕ) (n : ℕ) (b : List ℕ) (j : ℕ) : Type 0 where
-  pub left : spread_of j b ≡ spread_of n a
-  pub kept : length b ≡ length a
-  pub few : j ≤ n
-
-pub spreading : (a : List ℕ) (n : ℕ) → Spreading a n a n
-spreading a n = record { left = refl; kept = refl; few = omega arith }
-
-pub spreading-on : {a b : List ℕ} {n j i : ℕ} → Spreading a n b j → j ≡ suc i → Spreading a n (asked_at b (4 * i) (get_or b (2 * i) 0) (get_or b (2 * i + 1) 0)) i
+-- the last pair moved
+pub spread-next : (j : ℕ) (l : List ℕ) → 0 < j → spread_of (j - 1) (asked_at l (4 * (j - 1)) (get_or l (2 * (j - 1)) 0) (get_or l (2 * (j - 1) + 1) 0)) ≡ spread_of j l
 unfolding spread_of
-spreading-on {a} {b} {n} {j} {i} s e =
-    record {
-      left = ap (λ (k : ℕ). spread_of k b) (sym e) ∙ s.left;
-      kept = asked-at-long b (4 * i) (get_or b (2 * i) 0) (get_or b (2 * i + 1) 0) ∙ s.kept;
-      few = omega (arith, s.few);
-    }
+spread-next j l h =
+    let e : suc (j - 1) ≡ j = omega arith in
+    ap (λ (k : ℕ). spread_of k l) e
 
-pub spreading-ends : {a b : List ℕ} {n j : ℕ} → Spreading a n b j → j ≡ 0 → b ≡ spread_of n a
+pub spread-none : (j : ℕ) (l : List ℕ) → j ≡ 0 → spread_of j l ≡ l
 unfolding spread_of
-spreading-ends {a} {b} {n} {j} s e = ap (λ (k : ℕ). spread_of k b) (sym e) ∙ s.left
+spread-none j l e = ap (λ (k : ℕ). spread_of k l) e

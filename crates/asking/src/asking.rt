@@ -1,39 +1,32 @@
 // A screen of a book written, status asked for before each pair.
-ghost use Rattle.std.specs.Prelude.{◌≡◌};
-ghost use Rattle.writer.specs.Written.{wrote_all};
+ghost use Rattle.std.specs.Prelude.{◌≡◌, OnErr};
+ghost use Rattle.writer.specs.Written.{wrote_all, written_reply};
 ghost use Rattle.asking.specs.Asking.{asking_of};
 
 use super::spread::spread;
-use book::check::check;
 use state::panel::Panel;
-use writer::write::write;
-use writer::written::Written;
+use state::refusal::{Refusal, Refused};
+use writer::write::{count, write};
 
-// The asking stream of a screen, unless the panel, the book, the screen or the room is refused.
-pub fn write_asking(panel: Panel, book: &[u8], number: usize, room: &mut [u8]) -> Written
-    ensures { wrote_all result room.new ≡ asking_of panel book.now number room.old }
+/// The asking stream of a screen, in the start of a lent room with two bytes for each pair; its pairs, twice the plain stream's, are
+/// answered, and the room's rest stays. Refused, with the room as it was: as by `count`; `NoRoomForStream` with the pairs needed.
+pub fn write_asking(
+    panel: Panel,
+    book: &[u8],
+    number: usize,
+    room: &mut [u8],
+) -> Result<usize, Refused>
+    ensures value { wrote_all (written_reply result) room.new ≡ asking_of panel book.now number room.old }
+    ensures refused { OnErr result (room.new ≡ room.old) }
 {
-    let checked = check(panel, book, number);
-    if checked.number != 0 {
-        return Written {
-            number: checked.number,
-            place: checked.place,
-            pairs: 0,
-        };
-    }
-    let plain = 1057 + 9 * (panel.columns * panel.lines) + checked.pairs;
+    let plain = count(panel, book, number)?;
     if room.len() < 4 * plain {
-        return Written {
-            number: 12,
+        return Err(Refused {
+            refusal: Refusal::NoRoomForStream,
             place: 2 * plain,
-            pairs: 0,
-        };
+        });
     }
-    write(panel, book, number, room);
+    write(panel, book, number, room)?;
     spread(room, plain);
-    Written {
-        number: 0,
-        place: 0,
-        pairs: 2 * plain,
-    }
+    Ok(2 * plain)
 }

@@ -8,10 +8,9 @@ use native.Mathlib.Omega.{arith}
 use Rattle.state.specs.declared.panel.Panel.{Panel}
 use Rattle.state.specs.State.{valid_panel}
 use Rattle.state.proofs.Valid.{Panelled, panelled}
-use Rattle.book.specs.declared.check.Checked.{Checked}
+use Rattle.book.specs.Replies.{Checked}
 use Rattle.book.specs.declared.operation.Placed.{Placed}
-use Rattle.book.specs.declared.operation.Found.{Found}
-use Rattle.book.specs.declared.operation.Found.TheVariants.{Operation as Found-Operation, End, Faulty}
+use Rattle.book.specs.Replies.{Found, Operation as Found-Operation, End, Faulty}
 use Rattle.book.specs.Operation.{Operation, pairs_for, body_count, operation_of, found_at}
 use Rattle.book.specs.Pairs.{placed_pairs}
 use Rattle.book.specs.Range.{FoundOperation}

@@ -17,8 +17,11 @@ use Rattle.state.specs.Combination.{is_attribute}
 use Rattle.state.proofs.Valid.{Panelled}
 use Rattle.book.specs.declared.operation.Placed.{Placed}
 use Rattle.book.specs.declared.operation.Placed.TheVariants.{Text, Rectangle, Dot, Glyph, Cursor, Combine}
-use Rattle.book.specs.declared.operation.Found.{Found}
-use Rattle.book.specs.declared.operation.Found.TheVariants.{Operation as Found-Operation, End, Faulty}
+use Rattle.std.specs.Prelude.{Result, Ok, Err, Option, Some, None, IfErr}
+use Rattle.state.specs.declared.refusal.Refusal.{Refusal}
+use Rattle.state.specs.declared.refusal.Refusal.TheVariants.{WrongOperation}
+use Rattle.book.specs.declared.operation.Standing.{Standing}
+use Rattle.book.specs.Replies.{found, Found, Operation as Found-Operation, End, Faulty}
 use Rattle.contents.specs.Contents.{word_at, is_two}
 use Rattle.book.specs.Operation.{pairs_for, operation_of, sized, read_text, read_rectangle, read_dot, read_glyph, read_cursor, combination_of, known_mode, read_combine, found_here, found_at}
 use Rattle.book.specs.Pairs.{placed_pairs}
@@ -163,8 +166,23 @@ module _ (p : Panel) (book : List ℕ) (at end : ℕ) where
   at-end h = ⊎_elim (λ k. k.1) (λ k. absurd (let z : ⊥ = omega arith in z)) sorted
 
 -- two replies that meet the promise of `read` are equal, and two that meet that of `pairs`
-pub read-settled : {x y : Found} (p : Panel) (book : List ℕ) (at end : ℕ) → x ≡ found_at p book at end → y ≡ found_at p book at end → x ≡ y
-read-settled p book at end h k = settled h k
+pub read-result-settled : {x y : Result (Option Standing) Refusal} (p : Panel) (book : List ℕ) (at end : ℕ) → IfErr x (λ e. e ≡ WrongOperation) → IfErr y (λ e. e ≡ WrongOperation)
+    → found x ≡ found_at p book at end → found y ≡ found_at p book at end → x ≡ y
+read-result-settled {x} {y} p book at end i j h k = go x y i j (settled h k)
+  where
+    go : (x y : Result (Option Standing) Refusal) → IfErr x (λ e. e ≡ WrongOperation) → IfErr y (λ e. e ≡ WrongOperation) → found x ≡ found y → x ≡ y
+    go (Ok (Some s)) (Ok (Some t)) i j h =
+        let a : s.placed ≡ t.placed = cc in
+        let b : s.next ≡ t.next = cc in
+        λ q. Ok (Some (record { placed = a q; next = b q }))
+    go (Ok (Some s)) (Ok None) i j h = absurd (not_end (sym h))
+    go (Ok (Some s)) (Err e) i j h = let z : ◌≡◌ {A = ℕ} 0 1 = cc in absurd (let y : ⊥ = omega arith in y)
+    go (Ok None) (Ok (Some t)) i j h = absurd (not_end h)
+    go (Ok None) (Ok None) i j h = refl
+    go (Ok None) (Err e) i j h = let z : ◌≡◌ {A = ℕ} 0 1 = cc in absurd (let y : ⊥ = omega arith in y)
+    go (Err d) (Ok (Some t)) i j h = let z : ◌≡◌ {A = ℕ} 0 1 = cc in absurd (let y : ⊥ = omega arith in y)
+    go (Err d) (Ok None) i j h = let z : ◌≡◌ {A = ℕ} 0 1 = cc in absurd (let y : ⊥ = omega arith in y)
+    go (Err d) (Err e) i j h = ap Err (i ∙ sym j)
 
 pub pairs-settled : {x y : ℕ} (o : Placed) → x ≡ placed_pairs o → y ≡ placed_pairs o → x ≡ y
 pairs-settled o h k = settled h k
@@ -190,3 +208,7 @@ pairs-few p q book (Dot x y on) k = omega arith
 pairs-few p q book (Glyph code from) k = omega arith
 pairs-few p q book (Cursor line column height blink) k = omega arith
 pairs-few p q book (Combine c) k = omega arith
+
+-- the same of replies
+pub read-settled : {x y : Found} (p : Panel) (book : List ℕ) (at end : ℕ) → x ≡ found_at p book at end → y ≡ found_at p book at end → x ≡ y
+read-settled p book at end h k = settled h k

@@ -13,8 +13,7 @@ use Rattle.ground.proofs.Tests.{both_left, both_right, both}
 use Rattle.state.specs.declared.panel.Panel.{Panel}
 use Rattle.book.specs.declared.operation.Placed.{Placed}
 use Rattle.book.specs.declared.operation.Placed.TheVariants.{Text, Rectangle, Dot, Glyph, Cursor, Combine}
-use Rattle.book.specs.declared.operation.Found.{Found}
-use Rattle.book.specs.declared.operation.Found.TheVariants.{Operation as Found-Operation, End, Faulty}
+use Rattle.book.specs.Replies.{Found, Operation as Found-Operation, End, Faulty}
 use Rattle.contents.specs.Contents.{word_at, is_two}
 use Rattle.book.specs.Operation.{Operation, text, glyph, operation_of, sized, byte_in, text_found, read_text, rectangle_found, read_rectangle, dot_found, read_dot, glyph_found, read_glyph, cursor_found, read_cursor, combination_of, known_mode, combine_found, read_combine, found_here, found_at}
 use Rattle.book.specs.Screen.{screen, with_operation, operations_from}

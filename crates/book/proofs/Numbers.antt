@@ -5,12 +5,10 @@ use mathlib.Core.Logic.{⊎_elim}
 use Prim.Native.Nat.{ℕ, ◌-◌}
 use native.Mathlib.Omega.{arith}
 use Rattle.state.specs.declared.panel.Panel.{Panel}
-use Rattle.contents.specs.declared.ask.Asked.{Asked}
-use Rattle.contents.specs.declared.ask.Asked.TheVariants.{Body as Asked-Body, Refused}
+use Rattle.contents.specs.Replies.{Asked, Body as Asked-Body, Refused}
 use Rattle.contents.specs.Asked.{asked_of}
 use Rattle.contents.proofs.Asking.{asked-number}
-use Rattle.book.specs.declared.operation.Found.{Found}
-use Rattle.book.specs.declared.operation.Found.TheVariants.{Operation as Found-Operation, End, Faulty}
+use Rattle.book.specs.Replies.{Found, Operation as Found-Operation, End, Faulty}
 use Rattle.book.specs.Operation.{operation_of, found_at}
 use Rattle.book.specs.Screen.{screen, refused, with_operation, after_found, operations_from, screen_in, screen_of}
 use Rattle.book.specs.Numbers.{screen_number, screen_place, found_number, found_place}

@@ -2,20 +2,16 @@
 use mathlib.Core.Path.{◌≡◌, refl, ap, sym, ◌∙◌}
 use mathlib.Core.Bool.{Bool, true, false, cond, ◌&&◌}
 use mathlib.Core.List.{List}
-use Prim.Native.Nat.{ℕ, ◌+◌, ◌-◌, ◌*◌, ◌^◌, ◌<◌, ◌≤◌}
+use Prim.Native.Nat.{ℕ, ◌+◌, ◌-◌, ◌*◌, ◌<◌, ◌≤◌}
 use native.Mathlib.Omega.{arith}
-use mir.Syntax.{w64}
-use mir.Val.{Fits}
 use lib.Dec.{ltb, leb, eqb}
 use lib.ListN.{get_or}
 use borrow.Author.Tests.{le-leb, lt-leb, leb-true, leb-false}
-use Rattle.ground.proofs.Tests.{both_left}
 use Rattle.state.specs.declared.panel.Panel.{Panel}
 use Rattle.state.specs.declared.registers.Combination.{Combination}
 use Rattle.book.specs.declared.operation.Placed.{Placed}
 use Rattle.book.specs.declared.operation.Placed.TheVariants.{Text, Rectangle, Dot, Glyph, Cursor, Combine}
-use Rattle.book.specs.declared.operation.Found.{Found}
-use Rattle.book.specs.declared.operation.Found.TheVariants.{Operation as Found-Operation, Faulty}
+use Rattle.book.specs.Replies.{Found, Operation as Found-Operation, Faulty}
 use Rattle.contents.specs.Contents.{word_at}
 use Rattle.book.specs.Operation.{sized, read_text, read_rectangle, read_dot, read_glyph, read_cursor, combination_of, known_mode, read_combine}
 
@@ -27,11 +23,6 @@ module _ {at end : ℕ} (h : at ≤ end) (size : ℕ) where
       go : (t : Bool) → leb (at + size) end ≡ t → leb size (end - at) ≡ t
       go true e = let k : at + size ≤ end = leb-true (at + size) end e in le-leb size (end - at) (omega arith)
       go false e = let k : end < at + size = leb-false (at + size) end e in lt-leb size (end - at) (omega arith)
-
-  pub fits_whole : (ranged : Bool) → (leb size (end - at) && ranged) ≡ true → end < 2 ^ 64 → Fits w64 (at + size)
-  fits_whole ranged e f =
-      let k : size ≤ end - at = leb-true size (end - at) (both_left (leb size (end - at)) ranged e) in
-      record { fits = omega arith }
 
   module _ (o : Placed) (ranged : Bool) where
     sized-as : (v : Bool) → (leb size (end - at) && ranged) ≡ v → cond v (Found-Operation o (at + size)) Faulty ≡ sized at end size ranged o

@@ -9,9 +9,12 @@ use Rattle.ground.proofs.Tests.{settled}
 use Rattle.state.specs.declared.panel.Panel.{Panel}
 use Rattle.state.specs.State.{valid_panel}
 use Rattle.state.proofs.Valid.{panelled}
-use Rattle.book.specs.declared.check.Checked.{Checked}
-use Rattle.contents.specs.declared.ask.Asked.{Asked}
-use Rattle.contents.specs.declared.ask.Asked.TheVariants.{Body as Asked-Body, Refused}
+use Rattle.state.specs.declared.refusal.Refused.{Refused as Turned}
+use Rattle.state.proofs.RefusalNumbers.{not_zero, same_number}
+use Rattle.book.specs.declared.check.Checked.{Checked as Checked-Body}
+use Rattle.book.specs.Replies.{Checked, checked}
+use Rattle.std.specs.Prelude.{Result, Ok, Err}
+use Rattle.contents.specs.Replies.{Asked, Body as Asked-Body, Refused}
 use Rattle.book.specs.Operation.{Operation, body_count}
 use Rattle.contents.specs.Inside.{Inside}
 use Rattle.book.specs.Screen.{Screen, screen, refused, operations_from, screen_in, screen_of}
@@ -104,6 +107,22 @@ module _ (p : Panel) (book : List ℕ) (number : ℕ) where
       by-asked (Asked-Body start end) nz = by-screen start end (operations_from (end - start) p book start end) nz
       by-asked (Refused n place) nz = refl
 
+-- a refusal has a number
+pub checked-err : (e : Turned) → (checked (Err e)).number ≡ 0 → ⊥
+checked-err e h = not_zero e.refusal h
+
 -- two replies that meet the promise of `check` are equal
+pub check-result-settled : {x y : Result Checked-Body Turned} (p : Panel) (book : List ℕ) (number : ℕ) → checked x ≡ checked_of p book number → checked y ≡ checked_of p book number → x ≡ y
+check-result-settled {x} {y} p book number h k = go x y (settled h k)
+  where
+    go : (x y : Result Checked-Body Turned) → checked x ≡ checked y → x ≡ y
+    go (Ok c) (Ok d) h = λ i. Ok (record { start = (h i).start; end = (h i).end; pairs = (h i).pairs })
+    go (Ok c) (Err e) h = absurd (not_zero e.refusal (ap (λ (r : Checked). r.number) (sym h)))
+    go (Err d) (Ok c) h = absurd (not_zero d.refusal (ap (λ (r : Checked). r.number) h))
+    go (Err d) (Err e) h =
+        let n = same_number d.refusal e.refusal (ap (λ (r : Checked). r.number) h) in
+        λ i. Err (record { refusal = n i; place = (h i).place })
+
+-- the same of replies
 pub check-settled : {x y : Checked} (p : Panel) (book : List ℕ) (number : ℕ) → x ≡ checked_of p book number → y ≡ checked_of p book number → x ≡ y
 check-settled p book number h k = settled h k

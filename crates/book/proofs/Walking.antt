@@ -5,8 +5,7 @@ use Prim.Native.Nat.{ℕ, zero, suc, ◌-◌, ◌<◌, ◌≤◌}
 use native.Mathlib.Omega.{arith}
 use Rattle.state.specs.declared.panel.Panel.{Panel}
 use Rattle.book.specs.declared.operation.Placed.{Placed}
-use Rattle.book.specs.declared.operation.Found.{Found}
-use Rattle.book.specs.declared.operation.Found.TheVariants.{Operation as Found-Operation, End, Faulty}
+use Rattle.book.specs.Replies.{Found, Operation as Found-Operation, End, Faulty}
 use Rattle.book.specs.Operation.{Operation, operation_of, found_at}
 use Rattle.book.specs.Range.{FoundOperation}
 use Rattle.book.specs.Screen.{Screen, screen, refused, with_operation, after_found, operations_from}

@@ -2,9 +2,8 @@
 use Rattle.std.specs.Prelude.{ℕ, ◌-◌, cond, List}
 use Rattle.state.specs.declared.panel.Panel.{Panel}
 use Rattle.state.specs.State.{valid_panel}
-use Rattle.book.specs.declared.check.Checked.{Checked}
-use Rattle.contents.specs.declared.ask.Asked.{Asked}
-use Rattle.contents.specs.declared.ask.Asked.TheVariants.{Body, Refused}
+use Rattle.book.specs.Replies.{Checked}
+use Rattle.contents.specs.Replies.{Asked, Body, Refused}
 use Rattle.book.specs.Operation.{body_count}
 use Rattle.book.specs.Screen.{Screen, screen, refused, operations_from}
 use Rattle.contents.specs.Asked.{asked_of}

@@ -1,3 +1,4 @@
+pub mod Replies
 pub mod Operation
 pub mod Pairs
 pub mod Range

@@ -1,7 +1,6 @@
 -- 01, Numbers returned: the number and place of what is read, and of a whole screen.
 use Rattle.std.specs.Prelude.{ℕ}
-use Rattle.book.specs.declared.operation.Found.{Found}
-use Rattle.book.specs.declared.operation.Found.TheVariants.{Operation as Found-Operation, End, Faulty}
+use Rattle.book.specs.Replies.{Found, Operation as Found-Operation, End, Faulty}
 use Rattle.book.specs.Screen.{Screen, screen, refused}
 
 -- a screen's refusal

@@ -5,8 +5,7 @@ use Rattle.state.specs.declared.registers.Combination.{Combination}
 use Rattle.state.specs.declared.registers.Combination.TheVariants.{Or, Exor, And}
 use Rattle.book.specs.declared.operation.Placed.{Placed}
 use Rattle.book.specs.declared.operation.Placed.TheVariants.{Text, Rectangle, Dot, Glyph, Cursor, Combine}
-use Rattle.book.specs.declared.operation.Found.{Found}
-use Rattle.book.specs.declared.operation.Found.TheVariants.{Operation as Found-Operation, End, Faulty}
+use Rattle.book.specs.Replies.{Found, Operation as Found-Operation, End, Faulty}
 use Rattle.contents.specs.Contents.{word_at, is_two}
 
 pub data Operation : Type 0 where

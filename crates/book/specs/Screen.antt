@@ -2,11 +2,9 @@
 use Rattle.std.specs.Prelude.{ℕ, zero, suc, ◌-◌, List, [], ◌∷◌}
 use Rattle.state.specs.declared.panel.Panel.{Panel}
 use Rattle.contents.specs.Asked.{asked_of}
-use Rattle.contents.specs.declared.ask.Asked.{Asked}
-use Rattle.contents.specs.declared.ask.Asked.TheVariants.{Body as Asked-Body, Refused}
+use Rattle.contents.specs.Replies.{Asked, Body as Asked-Body, Refused}
 use Rattle.book.specs.declared.operation.Placed.{Placed}
-use Rattle.book.specs.declared.operation.Found.{Found}
-use Rattle.book.specs.declared.operation.Found.TheVariants.{Operation as Found-Operation, End, Faulty}
+use Rattle.book.specs.Replies.{Found, Operation as Found-Operation, End, Faulty}
 use Rattle.book.specs.Operation.{Operation, operation_of, found_at}
 
 -- a screen's operations, or a refusal with its place

@@ -2,5 +2,6 @@
 #![tactic(auto)]
 
 pub mod check;
+mod here;
 pub mod operation;
 mod product;

@@ -1,17 +1,21 @@
 // The operations of a screen, as they stand in the book.
-ghost use Rattle.std.specs.Prelude.{◌≡◌, ◌≤◌, ◌<◌, length};
+ghost use Rattle.std.specs.Prelude.{◌≡◌, IfErr};
 ghost use Rattle.book.specs.Operation.{sized, read_text, read_rectangle, read_dot, read_glyph, read_cursor, combination_of, read_combine, found_here, found_at};
 ghost use Rattle.book.specs.Pairs.{placed_pairs};
+ghost use Rattle.state.specs.declared.refusal.Refusal.TheVariants.{WrongOperation};
 ghost use Rattle.book.specs.Screen.{operations_from};
+ghost use Rattle.book.specs.Replies.{found, standing};
 ghost use Rattle.book.specs.Numbers.{screen_number, screen_place, found_number, found_place};
 
+use super::here::Here;
 use super::product::{below_product, within_product};
 use contents::bytes::{byte_at, word_at};
 use state::panel::Panel;
+use state::refusal::Refusal;
 use state::registers::Combination;
 
-// An operation; codes and rows stay in the book, at a byte of it.
-#[derive(Clone, Copy)]
+/// An operation; codes and rows stay in the book, at a byte of it.
+#[derive(Clone, Copy, Debug, PartialEq, Eq)]
 pub enum Placed {
     // line, column, where the codes stand, how many
     Text(u8, u8, usize, u8),
@@ -26,104 +30,104 @@ pub enum Placed {
     Combine(Combination),
 }
 
-// What reading finds: an operation and the byte behind it, the body's end, or an operation that is unknown, cut or out of range.
-#[derive(Clone, Copy)]
-pub enum Found {
-    Operation(Placed, usize),
-    End,
-    Faulty,
+/// An operation that stands in a book, and the byte behind it.
+#[derive(Clone, Copy, Debug, PartialEq, Eq)]
+pub struct Standing {
+    pub placed: Placed,
+    pub next: usize,
 }
 
 // An operation of `size` bytes, unless it is cut by the body's end or out of range.
-fn whole(at: usize, end: usize, size: usize, ranged: bool, placed: Placed) -> Found
-    requires { at ≤ end }
-    ensures { result ≡ sized at end size ranged placed }
+fn whole(here: &Here<'_>, size: usize, ranged: bool, placed: Placed) -> Option<Standing>
+    ensures { standing result ≡ sized here.now.at here.now.end size ranged placed }
 {
-    if (size <= end - at) & ranged {
-        Found::Operation(placed, at + size)
+    if (size <= here.end - here.at) & ranged {
+        Some(Standing {
+            placed,
+            next: here.at + size,
+        })
     } else {
-        Found::Faulty
+        None
     }
 }
 
 // 1 line col n codes.
-fn read_text(panel: Panel, book: &[u8], at: usize, end: usize) -> Found
-    requires { (at < end) × (end ≤ length book.now) }
-    ensures { result ≡ read_text panel book.now at end }
+fn read_text(here: &Here<'_>) -> Option<Standing>
+    ensures { standing result ≡ read_text here.now.panel here.now.book.now here.now.at here.now.end }
 {
-    let line = byte_at(book, at + 1);
-    let column = byte_at(book, at + 2);
-    let n = byte_at(book, at + 3);
+    let panel = here.panel;
+    let line = here.byte(1);
+    let column = here.byte(2);
+    let n = here.byte(3);
     let ranged = ((line as usize) < panel.lines)
         & (1 <= n)
         & (n <= 80)
         & (column as usize + n as usize <= panel.columns);
-    let placed = Placed::Text(line, column, at + 4, n);
-    whole(at, end, 4 + n as usize, ranged, placed)
+    let placed = Placed::Text(line, column, here.at + 4, n);
+    whole(here, 4 + n as usize, ranged, placed)
 }
 
 // 2 top col height width value.
-fn read_rectangle(panel: Panel, book: &[u8], at: usize, end: usize) -> Found
-    requires { (at < end) × (end ≤ length book.now) }
-    ensures { result ≡ read_rectangle panel book.now at end }
+fn read_rectangle(here: &Here<'_>) -> Option<Standing>
+    ensures { standing result ≡ read_rectangle here.now.panel here.now.book.now here.now.at here.now.end }
 {
-    let top = byte_at(book, at + 1);
-    let column = byte_at(book, at + 2);
-    let height = byte_at(book, at + 3);
-    let width = byte_at(book, at + 4);
-    let value = byte_at(book, at + 5);
+    let panel = here.panel;
+    let top = here.byte(1);
+    let column = here.byte(2);
+    let height = here.byte(3);
+    let width = here.byte(4);
+    let value = here.byte(5);
     let ranged = (1 <= height)
         & (1 <= width)
         & within_product(top as usize + height as usize, 8, panel.lines)
         & (column as usize + width as usize <= panel.columns);
     let placed = Placed::Rectangle(top, column, height, width, value);
-    whole(at, end, 6, ranged, placed)
+    whole(here, 6, ranged, placed)
 }
 
 // 3 xlow xhigh y v.
-fn read_dot(panel: Panel, book: &[u8], at: usize, end: usize) -> Found
-    requires { (at < end) × (end ≤ length book.now) }
-    ensures { result ≡ read_dot panel book.now at end }
+fn read_dot(here: &Here<'_>) -> Option<Standing>
+    ensures { standing result ≡ read_dot here.now.panel here.now.book.now here.now.at here.now.end }
 {
-    let x = word_at(book, at + 1);
-    let y = byte_at(book, at + 3);
-    let v = byte_at(book, at + 4);
+    let panel = here.panel;
+    let x = word_at(here.book, here.at + 1);
+    let y = here.byte(3);
+    let v = here.byte(4);
     let ranged = below_product(x as usize, panel.columns, panel.width)
         & below_product(y as usize, 8, panel.lines)
         & (v <= 1);
     let placed = Placed::Dot(x, y, v == 1);
-    whole(at, end, 5, ranged, placed)
+    whole(here, 5, ranged, placed)
 }
 
 // 4 code eight rows.
-fn read_glyph(panel: Panel, book: &[u8], at: usize, end: usize) -> Found
-    requires { (at < end) × (end ≤ length book.now) }
-    ensures { result ≡ read_glyph panel book.now at end }
+fn read_glyph(here: &Here<'_>) -> Option<Standing>
+    ensures { standing result ≡ read_glyph here.now.panel here.now.book.now here.now.at here.now.end }
 {
-    let code = byte_at(book, at + 1);
-    let placed = Placed::Glyph(code, at + 2);
-    whole(at, end, 10, 0x80 <= code, placed)
+    let code = here.byte(1);
+    let placed = Placed::Glyph(code, here.at + 2);
+    whole(here, 10, 0x80 <= code, placed)
 }
 
 // 5 line col height blink.
-fn read_cursor(panel: Panel, book: &[u8], at: usize, end: usize) -> Found
-    requires { (at < end) × (end ≤ length book.now) }
-    ensures { result ≡ read_cursor panel book.now at end }
+fn read_cursor(here: &Here<'_>) -> Option<Standing>
+    ensures { standing result ≡ read_cursor here.now.panel here.now.book.now here.now.at here.now.end }
 {
-    let line = byte_at(book, at + 1);
-    let column = byte_at(book, at + 2);
-    let height = byte_at(book, at + 3);
-    let blink = byte_at(book, at + 4);
+    let panel = here.panel;
+    let line = here.byte(1);
+    let column = here.byte(2);
+    let height = here.byte(3);
+    let blink = here.byte(4);
     let ranged = ((line as usize) < panel.lines)
         & ((column as usize) < panel.columns)
         & (1 <= height)
         & (height <= 8)
         & (blink <= 1);
     let placed = Placed::Cursor(line, column, height, blink == 1);
-    whole(at, end, 5, ranged, placed)
+    whole(here, 5, ranged, placed)
 }
 
-// 0 OR, 1 EXOR, 2 AND.
+// 0 OR, 1 EXOR, 2 AND, whatever is above: no `TryFrom`, since `known` judges the number beside it and no other caller reads it.
 fn combination_of(k: u8) -> Combination
     ensures { result ≡ combination_of k }
 {
@@ -135,49 +139,59 @@ fn combination_of(k: u8) -> Combination
 }
 
 // 6 k. A book of form two begins with 0, and does not know AND.
-fn read_combine(book: &[u8], at: usize, end: usize) -> Found
-    requires { (at < end) × (end ≤ length book.now) }
-    ensures { result ≡ read_combine book.now at end }
+fn read_combine(here: &Here<'_>) -> Option<Standing>
+    ensures { standing result ≡ read_combine here.now.book.now here.now.at here.now.end }
 {
-    let two = byte_at(book, 0) == 0;
-    let k = byte_at(book, at + 1);
+    let two = byte_at(here.book, 0) == 0;
+    let k = here.byte(1);
     let placed = Placed::Combine(combination_of(k));
     let known = (k <= 2) & !(two & (k == 2));
-    whole(at, end, 2, known, placed)
+    whole(here, 2, known, placed)
 }
 
 // The operation that begins at a byte inside the body.
-fn read_here(panel: Panel, book: &[u8], at: usize, end: usize) -> Found
-    requires { (at < end) × (end ≤ length book.now) }
-    ensures { result ≡ found_here panel book.now at end }
+fn read_here(here: &Here<'_>) -> Option<Standing>
+    ensures { standing result ≡ found_here here.now.panel here.now.book.now here.now.at here.now.end }
 {
-    let code = byte_at(book, at);
+    let code = byte_at(here.book, here.at);
     match code {
-        1 => read_text(panel, book, at, end),
-        2 => read_rectangle(panel, book, at, end),
-        3 => read_dot(panel, book, at, end),
-        4 => read_glyph(panel, book, at, end),
-        5 => read_cursor(panel, book, at, end),
-        6 => read_combine(book, at, end),
-        _ => Found::Faulty,
+        1 => read_text(here),
+        2 => read_rectangle(here),
+        3 => read_dot(here),
+        4 => read_glyph(here),
+        5 => read_cursor(here),
+        6 => read_combine(here),
+        _ => None,
     }
 }
 
-// What stands at a byte of a body that ends before `end`.
-pub fn read(panel: Panel, book: &[u8], at: usize, end: usize) -> Found
-    ensures value { result ≡ found_at panel book.now at end }
-    ensures result_value { (found_number result ≡ screen_number (operations_from 1 panel book.now at end)) × (found_place at result ≡ screen_place (operations_from 1 panel book.now at end)) }
+// A place in the book, and no `Here`: docs/PROMISES.md names this function, and any place may be asked about.
+/// What stands at a byte of a body that ends before `end`: an operation with the byte behind it, or none at the body's end.
+/// `WrongOperation` where it is unknown, cut by the body's end or out of the panel's range.
+pub fn read(panel: Panel, book: &[u8], at: usize, end: usize) -> Result<Option<Standing>, Refusal>
+    ensures value { found result ≡ found_at panel book.now at end }
+    ensures result_value { (found_number (found result) ≡ screen_number (operations_from 1 panel book.now at end)) × (found_place at (found result) ≡ screen_place (operations_from 1 panel book.now at end)) }
+    ensures refusal { IfErr result (λ e. e ≡ WrongOperation) }
 {
     if end <= at {
-        return Found::End;
+        return Ok(None);
     }
     if end <= book.len() {
-        return read_here(panel, book, at, end);
+        let here = Here {
+            panel,
+            book,
+            at,
+            end,
+        };
+        return match read_here(&here) {
+            Some(standing) => Ok(Some(standing)),
+            None => Err(Refusal::WrongOperation),
+        };
     }
-    Found::Faulty
+    Err(Refusal::WrongOperation)
 }
 
-// The pairs that an operation is written in.
+/// The pairs that an operation is written in.
 pub fn pairs(placed: Placed) -> usize
     ensures { result ≡ placed_pairs placed }
 {

@@ -1,4 +1,4 @@
--- What each export comes to, by what it found at the door, and that its reply is settled.
+-- What an access and a reset come to behind the door, and that the reply of each export is settled.
 use mathlib.Core.Path.{◌≡◌, ap, sym, ◌∙◌}
 use mathlib.Core.Bool.{Bool, true, false, cond}
 use mathlib.Core.List.{List}
@@ -10,10 +10,12 @@ use borrow.Author.Tests.{eq-eqb, ne_eqb}
 use Rattle.ground.specs.Bytes.{word_of}
 use Rattle.ground.proofs.Tests.{settled}
 use Rattle.state.specs.State.{reset_registers}
-use Rattle.sight.specs.declared.seen.Seen.{Seen}
+use Rattle.sight.specs.Answered.{Seen}
 use Rattle.display.specs.Frame.{painted, paint_of}
 use Rattle.sight.specs.Seen.{layers_of}
-use Rattle.controller.specs.Access.{Pair, replied, access_of}
+use Rattle.controller.specs.Access.{Pair, refused, replied, access_of}
+use Rattle.single.specs.Outcome.{entered_of}
+use Rattle.single.proofs.Acts.{acted-entered}
 use Rattle.controller.specs.Run.{ran_all, stopping_of}
 use Rattle.controller.specs.Skip.{ran_on_all, run_of}
 use Rattle.boundary.specs.Types.{Panel, Registers, Acted, Ran, RanOn, Reply, Entry, State, Refused}
@@ -27,70 +29,22 @@ module _ (p : Panel) (b mem rom : List ℕ) (q : Pair) {x : Entry} (h : x ≡ do
   unfolding access_bytes
   access-by e = ap (λ (y : Entry). access_by y p b mem rom q) (sym e ∙ h)
 
-  pub access-refused : {n w : ℕ} → x ≡ Refused n → w ≡ word_of n 0 → access_end w b mem ≡ access_bytes p b mem rom q
-  access-refused {n} {w} e k = let f : w ≡ n = omega arith in ap (λ (n : ℕ). access_end n b mem) f ∙ access-by e
-
   pub access-done : {r : Registers} {a : Acted} {m l : List ℕ} {w : ℕ} → x ≡ State r → replied a m ≡ access_of p r mem rom q
       → l ≡ kept_of a.number a.registers b → w ≡ word_of a.number a.answer → access_end w l m ≡ access_bytes p b mem rom q
   access-done {m = m} e f k g = (λ i. access_end (g i) (k i) m) ∙ ap (access_done b) f ∙ access-by e
 
-module _ (p : Panel) (b mem rom log : List ℕ) (limit : ℕ) (answers k : List ℕ) {x : Entry} (h : x ≡ door_of p (eqb (length k) 3) b) where
-  stopping-by : {y : Entry} → x ≡ y → stopping_by y p b mem rom log limit answers k ≡ stopping_bytes p b mem rom log limit answers k
-  unfolding stopping_bytes
-  stopping-by e = ap (λ (y : Entry). stopping_by y p b mem rom log limit answers k) (sym e ∙ h)
-
-  pub stopping-refused : {n : ℕ} → x ≡ Refused n → run_end n b mem answers k ≡ stopping_bytes p b mem rom log limit answers k
-  stopping-refused e = stopping-by e
-
-  pub stopping-done : {r : Registers} {a : Ran} {m c l s : List ℕ} → x ≡ State r → ran_all a m c ≡ stopping_of p r mem rom log limit answers
-      → l ≡ kept_of a.number a.registers b → s ≡ counts_of a.number a.place a.taken a.answers k
-      → run_end a.number l m c s ≡ stopping_bytes p b mem rom log limit answers k
-  stopping-done {a = a} {m = m} {c = c} e f g t = (λ i. run_end a.number (g i) m c (t i)) ∙ ap (stopping_done b k) f ∙ stopping-by e
-
-module _ (p : Panel) (b mem rom log : List ℕ) (limit : ℕ) (answers skips k : List ℕ) {x : Entry} (h : x ≡ door_of p (eqb (length k) 4) b) where
-  run_by : {y : Entry} → x ≡ y → run_on_by y p b mem rom log limit answers skips k ≡ run_on_bytes p b mem rom log limit answers skips k
-  unfolding run_on_bytes
-  run_by e = ap (λ (y : Entry). run_on_by y p b mem rom log limit answers skips k) (sym e ∙ h)
-
-  pub run-refused : {n : ℕ} → x ≡ Refused n → run_on_end n b mem answers skips k ≡ run_on_bytes p b mem rom log limit answers skips k
-  run-refused e = run_by e
-
-  pub run-done : {r : Registers} {a : RanOn} {m c d l s : List ℕ} → x ≡ State r → ran_on_all a m c d ≡ run_of p r mem rom log limit answers skips
-      → l ≡ kept_of a.ran.number a.ran.registers b → s ≡ counts_on_of a.ran.number a.ran.place a.ran.taken a.ran.answers a.skipped k
-      → run_on_end a.ran.number l m c d s ≡ run_on_bytes p b mem rom log limit answers skips k
-  run-done {a = a} {m = m} {c = c} {d = d} e f g t = (λ i. run_on_end a.ran.number (g i) m c d (t i)) ∙ ap (run_on_done b k) f ∙ run_by e
-
-module _ (p : Panel) (b mem rom frame : List ℕ) {x : Entry} (h : x ≡ door_of p true b) where
-  paint-by : {y : Entry} → x ≡ y → paint_by y p mem rom frame ≡ paint_bytes p b mem rom frame
-  unfolding paint_bytes
-  paint-by e = ap (λ (y : Entry). paint_by y p mem rom frame) (sym e ∙ h)
-
-  pub paint-refused : {n : ℕ} → x ≡ Refused n → paint_end n frame ≡ paint_bytes p b mem rom frame
-  paint-refused e = paint-by e
-
-  pub paint-done : {r : Registers} {a : Reply} {f : List ℕ} → x ≡ State r → painted a f ≡ paint_of p r mem rom frame
-      → paint_end a.number f ≡ paint_bytes p b mem rom frame
-  paint-done e f = ap paint_done f ∙ paint-by e
-
-module _ (p : Panel) (b mem rom : List ℕ) (row column : ℕ) {x : Entry} (h : x ≡ door_of p true b) where
-  layers-by : {y : Entry} → x ≡ y → layers_by y p mem rom row column ≡ layers_bytes p b mem rom row column
-  unfolding layers_bytes
-  layers-by e = ap (λ (y : Entry). layers_by y p mem rom row column) (sym e ∙ h)
-
-  pub layers-refused : {n w : ℕ} → x ≡ Refused n → w ≡ layers_word n 0 0 0 → w ≡ layers_bytes p b mem rom row column
-  layers-refused e k = k ∙ layers-by e
-
-  pub layers-done : {r : Registers} {s : Seen} {w : ℕ} → x ≡ State r → s ≡ layers_of p r.display mem rom row column
-      → w ≡ layers_done s → w ≡ layers_bytes p b mem rom row column
-  layers-done e f k = k ∙ ap layers_done f ∙ layers-by e
+  -- refused behind the door: registers and memory are as they were
+  pub access-err : {r s : Registers} {m l : List ℕ} {n i j w : ℕ} → x ≡ State r → (s ≡ r) × (m ≡ mem) → refused n ≡ entered_of p r mem rom q
+      → i ≡ n → j ≡ n → l ≡ kept_of i s b → w ≡ word_of j 0 → access_end w l m ≡ access_bytes p b mem rom q
+  access-err {r} {s} {m} {n = n} e f g u v k y =
+      access-done {a = record { number = n; place = 0; registers = s; answer = 0 }} e
+      ((λ t. replied (record { number = n; place = 0; registers = f.0 t; answer = 0 }) (f.1 t)) ∙ acted-entered p r mem rom q g)
+      (k ∙ ap (λ (z : ℕ). kept_of z s b) u) (y ∙ ap (λ (z : ℕ). word_of z 0) v)
 
 module _ (b : List ℕ) where
   reset_by : (v : Bool) → eqb (length b) 25 ≡ v → cond v (reset_end 0 (bytes_of reset_registers)) (reset_end 2 b) ≡ reset_bytes b
   unfolding reset_bytes
   reset_by v e = ap (λ (t : Bool). cond t (reset_end 0 (bytes_of reset_registers)) (reset_end 2 b)) (sym e)
-
-  pub reset-refused : (length b ≡ 25 → ⊥) → reset_end 2 b ≡ reset_bytes b
-  reset-refused e = reset_by false (ne_eqb (length b) 25 e)
 
   pub reset-done : {r : Registers} {l : List ℕ} → length b ≡ 25 → r ≡ reset_registers → l ≡ replaced (bytes_of r) b → reset_end 0 l ≡ reset_bytes b
   reset-done {r} e h k = ap (reset_end 0) (k ∙ sym (replaced-same (bytes_of r) b (e ∙ sym (bytes-length r))) ∙ ap bytes_of h) ∙ reset_by true (eq-eqb (length b) 25 e)

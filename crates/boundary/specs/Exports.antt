@@ -2,7 +2,7 @@
 use Rattle.std.specs.Prelude.{ℕ, ◌+◌, ◌*◌, true, cond, List, eqb, length}
 use Rattle.ground.specs.Bytes.{word_of}
 use Rattle.state.specs.State.{reset_registers}
-use Rattle.sight.specs.declared.seen.Seen.{Seen}
+use Rattle.sight.specs.Answered.{Seen}
 use Rattle.display.specs.Frame.{Painted, paint_of}
 use Rattle.sight.specs.Seen.{layers_of}
 use Rattle.controller.specs.Access.{Pair, Accessed, access_of}

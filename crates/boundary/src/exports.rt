@@ -6,13 +6,16 @@ ghost use Rattle.boundary.specs.Exports.{access_end, access_bytes, run_end, stop
 use controller::run::{run, run_stopping};
 use display::frame::paint;
 use ground::bytes::word;
-use image::door::{Entry, count, count_on, enter, keep, marked};
+use image::door::{count, count_on, enter, keep, marked};
 use image::image::encode;
 use sight::seen::layers;
-use single::access::access;
+use single::step::access;
+use state::refusal::Refusal;
 use state::registers::Registers;
+use state::reply::number;
 
 // One access: the number in the low byte, the byte read in the high one.
+#[tactic(auto, unfolding(crate::specs::Exports::access_bytes))]
 #[unsafe(no_mangle)]
 pub extern "C" fn t6963c_access(
     columns: usize,
@@ -29,17 +32,25 @@ pub extern "C" fn t6963c_access(
 {
     let panel = marked(columns, lines, width, dual);
     match enter(panel, true, registers) {
-        Entry::State(state) => {
-            let acted = access(panel, state, memory, rom, kind, byte);
-            let after = acted.registers;
-            keep(acted.number, after, registers);
-            word(acted.number, acted.answer)
+        Ok(state) => {
+            let mut after = state;
+            match access(&mut after, panel, memory, rom, kind, byte) {
+                Ok(answer) => {
+                    keep(0, after, registers);
+                    word(0, answer.unwrap_or(0))
+                }
+                Err(refusal) => {
+                    keep(refusal.number(), after, registers);
+                    word(refusal.number(), 0)
+                }
+            }
         }
-        Entry::Refused(number) => word(number, 0),
+        Err(refusal) => word(refusal.number(), 0),
     }
 }
 
 // At most `limit` pairs of a log, refused ones skipped and listed: the number. `counts` becomes place, pairs taken, answers written, pairs listed.
+#[tactic(auto, unfolding(crate::specs::Exports::run_on_bytes))]
 #[unsafe(no_mangle)]
 pub extern "C" fn t6963c_run(
     columns: usize,
@@ -60,7 +71,7 @@ pub extern "C" fn t6963c_run(
     let panel = marked(columns, lines, width, dual);
     let four = counts.len() == 4;
     match enter(panel, four, registers) {
-        Entry::State(state) => {
+        Ok(state) => {
             let gone = run(panel, state, memory, rom, log, limit, answers, skips);
             let ran = gone.ran;
             let after = ran.registers;
@@ -75,11 +86,12 @@ pub extern "C" fn t6963c_run(
             );
             ran.number
         }
-        Entry::Refused(number) => number,
+        Err(refusal) => refusal.number(),
     }
 }
 
 // At most `limit` pairs of a log, up to the first refused: the number. `counts` becomes place, pairs taken, answers written.
+#[tactic(auto, unfolding(crate::specs::Exports::stopping_bytes))]
 #[unsafe(no_mangle)]
 pub extern "C" fn t6963c_run_stopping(
     columns: usize,
@@ -99,18 +111,19 @@ pub extern "C" fn t6963c_run_stopping(
     let panel = marked(columns, lines, width, dual);
     let counted = counts.len() == 3;
     match enter(panel, counted, registers) {
-        Entry::State(state) => {
+        Ok(state) => {
             let ran = run_stopping(panel, state, memory, rom, log, limit, answers);
             let after = ran.registers;
             keep(ran.number, after, registers);
             count(ran.number, ran.place, ran.taken, ran.answers, counts);
             ran.number
         }
-        Entry::Refused(number) => number,
+        Err(refusal) => refusal.number(),
     }
 }
 
 // The frame: the number.
+#[tactic(auto, unfolding(crate::specs::Exports::paint_bytes))]
 #[unsafe(no_mangle)]
 pub extern "C" fn t6963c_paint(
     columns: usize,
@@ -126,14 +139,12 @@ pub extern "C" fn t6963c_paint(
 {
     let panel = marked(columns, lines, width, dual);
     match enter(panel, true, registers) {
-        Entry::State(state) => {
-            let reply = paint(panel, state, memory, rom, frame);
-            reply.number
-        }
-        Entry::Refused(number) => number,
+        Ok(state) => number(paint(panel, state, memory, rom, frame)),
+        Err(refusal) => refusal.number(),
     }
 }
 
+// kept: the C interface
 // Four bytes as one number, the first the lowest.
 fn layers_word(number: u8, text: u8, graphic: u8, shown: u8) -> u32
     ensures { result ≡ layers_word number text graphic shown }
@@ -142,6 +153,7 @@ fn layers_word(number: u8, text: u8, graphic: u8, shown: u8) -> u32
 }
 
 // The layers of a cell row: the number in the low byte, then text, graphic and what comes of them.
+#[tactic(auto, unfolding(crate::specs::Exports::layers_bytes))]
 #[unsafe(no_mangle)]
 pub extern "C" fn t6963c_layers(
     columns: usize,
@@ -158,23 +170,23 @@ pub extern "C" fn t6963c_layers(
 {
     let panel = marked(columns, lines, width, dual);
     match enter(panel, true, registers) {
-        Entry::State(state) => {
-            let display = state.display;
-            let seen = layers(panel, display, memory, rom, row, column);
-            layers_word(seen.number, seen.text, seen.graphic, seen.shown)
-        }
-        Entry::Refused(number) => layers_word(number, 0, 0, 0),
+        Ok(state) => match layers(panel, state.display, memory, rom, row, column) {
+            Ok(seen) => layers_word(0, seen.text, seen.graphic, seen.shown),
+            Err(refusal) => layers_word(refusal.number(), 0, 0, 0),
+        },
+        Err(refusal) => layers_word(refusal.number(), 0, 0, 0),
     }
 }
 
 // The reset state.
+#[tactic(auto, unfolding(crate::specs::Exports::reset_bytes))]
 #[unsafe(no_mangle)]
 pub extern "C" fn t6963c_reset(registers: &mut [u8]) -> u8
     ensures { reset_end result registers.new ≡ reset_bytes registers.old }
 {
-    if registers.len() == 25 {
-        encode(Registers::reset(), registers);
-        return 0;
+    if registers.len() != 25 {
+        return Refusal::WrongLength.number();
     }
-    2
+    encode(Registers::reset(), registers);
+    0
 }

@@ -16,10 +16,8 @@ numbers : build 256 number_at ≡ build 256 code_number
 unfolding build defined_code number_at
 numbers = refl
 
--- a decoded code, and its number
-pub numbered : {r : Decoded} (code : ℕ) → code < 256 → r ≡ decode_of code → (r ≡ decode_of code) × (decoded_number r ≡ code_number code)
+-- the number of a decoded code
+pub numbered : {r : Decoded} (code : ℕ) → code < 256 → r ≡ decode_of code → decoded_number r ≡ code_number code
 unfolding number_at
-numbered code l h = (
-  h,
-  ap decoded_number h ∙ sym (build-at 256 number_at code 0 l) ∙ ap (λ (xs : List ℕ). get_or xs code 0) numbers ∙ build-at 256 code_number code 0 l,
-)
+numbered code l h =
+    ap decoded_number h ∙ sym (build-at 256 number_at code 0 l) ∙ ap (λ (xs : List ℕ). get_or xs code 0) numbers ∙ build-at 256 code_number code 0 l

@@ -6,5 +6,4 @@ pub use Rattle.state.specs.declared.registers.Target.TheVariants.{Cursor, Offset
 pub use Rattle.state.specs.declared.registers.Move.TheVariants.{Up, Down, Stay}
 pub use Rattle.codes.specs.declared.command.Command.{Command}
 pub use Rattle.codes.specs.declared.command.Command.TheVariants.{Set, Mode, DisplayMode, Height, Run, Store, Load, Peek, Copy, Bit}
-pub use Rattle.codes.specs.declared.decode.Decoded.{Decoded}
-pub use Rattle.codes.specs.declared.decode.Decoded.TheVariants.{Defined, Undefined}
+pub use Rattle.codes.specs.Decoded.{Decoded, Defined, Undefined, decoded}

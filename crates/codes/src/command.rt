@@ -4,7 +4,7 @@ ghost use Rattle.codes.specs.Command.{needed_of, ends_auto, is_off};
 
 use state::registers::{Auto, Combination, DisplayBits, Move, Target};
 
-#[derive(Clone, Copy)]
+#[derive(Clone, Copy, Debug, PartialEq, Eq)]
 pub enum Command {
     Set(Target),
     // external, combination
@@ -20,50 +20,29 @@ pub enum Command {
     Bit(bool, u8),
 }
 
+// a function: with a bare `==` two goals of single's `command` did not close alone; the definition has this name
 pub fn is_off(auto: Auto) -> bool
     ensures { result ≡ is_off auto }
 {
-    match auto {
-        Auto::Off => true,
-        Auto::Write => false,
-        Auto::Read => false,
-    }
+    auto == Auto::Off
 }
 
 impl Command {
-    // How many data it needs.
+    /// How many data it needs, 0 to 2.
     pub fn needed(self) -> u8
         ensures { result ≡ needed_of self }
     {
         match self {
             Command::Set(_) => 2,
-            Command::Mode(_, _) => 0,
-            Command::DisplayMode(_) => 0,
-            Command::Height(_) => 0,
-            Command::Run(_) => 0,
             Command::Store(_) => 1,
-            Command::Load(_) => 0,
-            Command::Peek => 0,
-            Command::Copy => 0,
-            Command::Bit(_, _) => 0,
+            _ => 0,
         }
     }
 
-    // Whether it is B2H, the one code taken in auto.
+    /// Whether it is B2H, the one code taken in auto.
     pub fn ends_auto(self) -> bool
         ensures { result ≡ ends_auto self }
     {
-        match self {
-            Command::Set(_) => false,
-            Command::Mode(_, _) => false,
-            Command::DisplayMode(_) => false,
-            Command::Height(_) => false,
-            Command::Run(auto) => is_off(auto),
-            Command::Store(_) => false,
-            Command::Load(_) => false,
-            Command::Peek => false,
-            Command::Copy => false,
-            Command::Bit(_, _) => false,
-        }
+        matches!(self, Command::Run(Auto::Off))
     }
 }

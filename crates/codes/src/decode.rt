@@ -1,59 +1,53 @@
 // The 66 defined codes, by their high and low four bits.
 ghost use Rattle.std.specs.Prelude.{◌≡◌};
 ghost use Rattle.codes.specs.Command.{register_of, control_of, mode_of, display_mode_of, height_of, auto_code_of, transfer_of, sight_code_of, bit_code_of, decode_of};
+ghost use Rattle.codes.specs.Decoded.{decoded};
 ghost use Rattle.codes.specs.Numbers.{code_number, decoded_number};
 
 use super::command::Command;
 use state::registers::{Auto, Combination, DisplayBits, Move, Target};
 
-// A code is a command, or undefined.
-#[derive(Clone, Copy)]
-pub enum Decoded {
-    Defined(Command),
-    Undefined,
-}
-
-fn register(low: u8) -> Decoded
-    ensures { result ≡ register_of low }
+fn register(low: u8) -> Option<Command>
+    ensures { decoded result ≡ register_of low }
 {
     match low {
-        1 => Decoded::Defined(Command::Set(Target::Cursor)),
-        2 => Decoded::Defined(Command::Set(Target::Offset)),
-        4 => Decoded::Defined(Command::Set(Target::Pointer)),
-        _ => Decoded::Undefined,
+        1 => Some(Command::Set(Target::Cursor)),
+        2 => Some(Command::Set(Target::Offset)),
+        4 => Some(Command::Set(Target::Pointer)),
+        _ => None,
     }
 }
 
-fn control(low: u8) -> Decoded
-    ensures { result ≡ control_of low }
+fn control(low: u8) -> Option<Command>
+    ensures { decoded result ≡ control_of low }
 {
     match low {
-        0 => Decoded::Defined(Command::Set(Target::TextHome)),
-        1 => Decoded::Defined(Command::Set(Target::TextArea)),
-        2 => Decoded::Defined(Command::Set(Target::GraphicHome)),
-        3 => Decoded::Defined(Command::Set(Target::GraphicArea)),
-        _ => Decoded::Undefined,
+        0 => Some(Command::Set(Target::TextHome)),
+        1 => Some(Command::Set(Target::TextArea)),
+        2 => Some(Command::Set(Target::GraphicHome)),
+        3 => Some(Command::Set(Target::GraphicArea)),
+        _ => None,
     }
 }
 
-fn mode(low: u8) -> Decoded
-    ensures { result ≡ mode_of low }
+fn mode(low: u8) -> Option<Command>
+    ensures { decoded result ≡ mode_of low }
 {
     let external = (low >> 3) % 2 == 1;
     let kind = low % 8;
     match kind {
-        0 => Decoded::Defined(Command::Mode(external, Combination::Or)),
-        1 => Decoded::Defined(Command::Mode(external, Combination::Exor)),
-        3 => Decoded::Defined(Command::Mode(external, Combination::And)),
-        4 => Decoded::Defined(Command::Mode(external, Combination::Attribute)),
-        _ => Decoded::Undefined,
+        0 => Some(Command::Mode(external, Combination::Or)),
+        1 => Some(Command::Mode(external, Combination::Exor)),
+        3 => Some(Command::Mode(external, Combination::And)),
+        4 => Some(Command::Mode(external, Combination::Attribute)),
+        _ => None,
     }
 }
 
-fn display_mode(low: u8) -> Decoded
-    ensures { result ≡ display_mode_of low }
+fn display_mode(low: u8) -> Option<Command>
+    ensures { decoded result ≡ display_mode_of low }
 {
-    Decoded::Defined(Command::DisplayMode(DisplayBits {
+    Some(Command::DisplayMode(DisplayBits {
         graphic: (low >> 3) % 2 == 1,
         text: (low >> 2) % 2 == 1,
         cursor: (low >> 1) % 2 == 1,
@@ -61,60 +55,61 @@ fn display_mode(low: u8) -> Decoded
     }))
 }
 
-fn height(low: u8) -> Decoded
-    ensures { result ≡ height_of low }
+fn height(low: u8) -> Option<Command>
+    ensures { decoded result ≡ height_of low }
 {
     if low < 8 {
-        Decoded::Defined(Command::Height(low + 1))
+        Some(Command::Height(low + 1))
     } else {
-        Decoded::Undefined
+        None
     }
 }
 
-fn auto_code(low: u8) -> Decoded
-    ensures { result ≡ auto_code_of low }
+fn auto_code(low: u8) -> Option<Command>
+    ensures { decoded result ≡ auto_code_of low }
 {
     match low {
-        0 => Decoded::Defined(Command::Run(Auto::Write)),
-        1 => Decoded::Defined(Command::Run(Auto::Read)),
-        2 => Decoded::Defined(Command::Run(Auto::Off)),
-        _ => Decoded::Undefined,
+        0 => Some(Command::Run(Auto::Write)),
+        1 => Some(Command::Run(Auto::Read)),
+        2 => Some(Command::Run(Auto::Off)),
+        _ => None,
     }
 }
 
-fn transfer(low: u8) -> Decoded
-    ensures { result ≡ transfer_of low }
+fn transfer(low: u8) -> Option<Command>
+    ensures { decoded result ≡ transfer_of low }
 {
     match low {
-        0 => Decoded::Defined(Command::Store(Move::Up)),
-        1 => Decoded::Defined(Command::Load(Move::Up)),
-        2 => Decoded::Defined(Command::Store(Move::Down)),
-        3 => Decoded::Defined(Command::Load(Move::Down)),
-        4 => Decoded::Defined(Command::Store(Move::Stay)),
-        5 => Decoded::Defined(Command::Load(Move::Stay)),
-        _ => Decoded::Undefined,
+        0 => Some(Command::Store(Move::Up)),
+        1 => Some(Command::Load(Move::Up)),
+        2 => Some(Command::Store(Move::Down)),
+        3 => Some(Command::Load(Move::Down)),
+        4 => Some(Command::Store(Move::Stay)),
+        5 => Some(Command::Load(Move::Stay)),
+        _ => None,
     }
 }
 
-fn sight_code(low: u8) -> Decoded
-    ensures { result ≡ sight_code_of low }
+fn sight_code(low: u8) -> Option<Command>
+    ensures { decoded result ≡ sight_code_of low }
 {
     match low {
-        0 => Decoded::Defined(Command::Peek),
-        8 => Decoded::Defined(Command::Copy),
-        _ => Decoded::Undefined,
+        0 => Some(Command::Peek),
+        8 => Some(Command::Copy),
+        _ => None,
     }
 }
 
-fn bit_code(low: u8) -> Decoded
-    ensures { result ≡ bit_code_of low }
+fn bit_code(low: u8) -> Option<Command>
+    ensures { decoded result ≡ bit_code_of low }
 {
-    Decoded::Defined(Command::Bit((low >> 3) % 2 == 1, low % 8))
+    Some(Command::Bit((low >> 3) % 2 == 1, low % 8))
 }
 
-pub fn decode(code: u8) -> Decoded
-    ensures value { result ≡ decode_of code }
-    ensures result_value { decoded_number result ≡ code_number code }
+/// The command that a code, 00H to FFH, stands for; none where it is undefined.
+pub fn decode(code: u8) -> Option<Command>
+    ensures value { decoded result ≡ decode_of code }
+    ensures result_value { decoded_number (decoded result) ≡ code_number code }
 {
     let high = code / 16;
     let low = code % 16;
@@ -128,6 +123,6 @@ pub fn decode(code: u8) -> Decoded
         12 => transfer(low),
         14 => sight_code(low),
         15 => bit_code(low),
-        _ => Decoded::Undefined,
+        _ => None,
     }
 }

@@ -3,3 +3,4 @@
 
 pub mod command;
 pub mod decode;
+pub mod pair;

@@ -1,13 +1,13 @@
 -- What each test of a comparison answers, from its parts.
 use mathlib.Core.Path.{◌≡◌, refl, ap, sym, subst, ◌∙◌}
-use mathlib.Core.Bool.{Bool, true, false, cond, ◌&&◌}
+use mathlib.Core.Bool.{Bool, true, ◌&&◌}
 use mathlib.Core.List.{List}
-use Prim.Native.Nat.{ℕ, ◌+◌, ◌/◌, ◌%◌}
+use Prim.Native.Nat.{ℕ, ◌/◌, ◌%◌}
 use native.Mathlib.Omega.{arith}
 use native.Mathlib.Decide.{ℕ_discrete}
 use lib.Dec.{eqb}
 use lib.ListN.{length, take}
-use borrow.Author.Tests.{eqb-true, eq-eqb, ne_eqb}
+use borrow.Author.Tests.{eqb-true, eq-eqb}
 use Rattle.ground.specs.Lists.{zeros}
 use Rattle.ground.proofs.Tests.{both, both_left, both_right, settled}
 use Rattle.state.specs.State.{valid_panel, valid_display, valid_bus, valid_registers, reset_registers}
@@ -16,19 +16,19 @@ use Rattle.controller.specs.Run.{pairs_of, RanAll, stopping_of}
 use Rattle.controller.proofs.Laws.{sounds, sounds-valid}
 use Rattle.controller.specs.Ready.{standing}
 use Rattle.controller.proofs.Splitting.{running-kept, inside}
-use Rattle.entries.specs.declared.enter.Entered.{Entered}
 use Rattle.entries.specs.Listed.{differences_from}
-use Rattle.entries.specs.Entered.{entered_all, entered_of}
+use Rattle.entries.specs.Entered.{Entered, entered_all, entered_of}
 use Rattle.entries.proofs.Listings.{differences-few}
 use Rattle.entries.proofs.Enterings.{bytes-are, values-are}
 use Rattle.playback.proofs.Parted.{door-8}
 use Rattle.comparison.specs.Types.{Panel, Registers, Ran}
-use Rattle.comparison.specs.declared.compare.Compared.{Compared}
 use Rattle.whole.specs.Whole.{RanWhole, ran_whole, whole_of}
 use Rattle.image.specs.Registered.{register_values}
-use Rattle.comparison.specs.Apart.{dots_apart}
 use Rattle.comparison.specs.Ready.{Few, Pictured, Paints}
-use Rattle.comparison.specs.Verdict.{ComparedAll, compared_all, uncompared, memory_apart, registers_apart, told_of, compared_list, after_two, after_one, memories_fit, compare_of}
+use Rattle.std.proofs.Common.{Result, Ok, Err, IfErr, ◌≤◌}
+use Rattle.comparison.specs.declared.compare.Compared.{Compared as Differences}
+use Rattle.comparison.specs.declared.compare.Refused.{Refused}
+use Rattle.comparison.specs.Verdict.{Compared, ComparedAll, compared, compared_all, told_of, compared_list, memories_fit, compare_of}
 use Rattle.image.proofs.Registries.{values_length}
 
 -- a run from a valid state leaves one, and a memory of its length
@@ -73,14 +73,6 @@ few r q list b {mem} {memory} {rom} {a} k f e =
       values = omega (arith, ap length f ∙ values_length r, differences-few 0 a b, values-are list (differences_from 0 mem memory) (differences_from 0 a b) e);
     }
 
-pub told-listed : (e : Entered) (dots : ℕ) → e.listed ≡ true → record { number = 0; place = 0; log = 0; memory = e.bytes; registers = e.values; dots = dots } ≡ told_of e dots
-told-listed e dots h =
-    ap (λ (t : Bool). cond t (record { number = 0; place = 0; log = 0; memory = e.bytes; registers = e.values; dots = dots }) (uncompared 15 (e.bytes + e.values) 0)) (sym h)
-
-pub told-15 : (e : Entered) (dots : ℕ) {c : Compared} → e.listed ≡ false → c ≡ uncompared 15 (e.bytes + e.values) 0 → c ≡ told_of e dots
-told-15 e dots h k =
-    k ∙ ap (λ (t : Bool). cond t (record { number = 0; place = 0; log = 0; memory = e.bytes; registers = e.values; dots = dots }) (uncompared 15 (e.bytes + e.values) 0)) (sym h)
-
 -- the registers' numbers and the dots, as they are of two machines
 pub lists-both : (list one two : List ℕ) (r q : Registers) (d : ℕ) {a b l : List ℕ} {x : Entered} {y : Compared} {c : ℕ} → a ≡ register_values r → b ≡ register_values q → c ≡ d
     → entered_all x l ≡ entered_of list (differences_from 0 one two) (differences_from 0 a b) → y ≡ told_of x c
@@ -90,62 +82,11 @@ lists-both list one two r q d {l = l} {x} f g h e t =
     ∙ ap (λ (n : ℕ). compared_list one two n (entered_all x l)) h
     ∙ ap (compared_list one two d) (e ∙ (λ i. entered_of list (differences_from 0 one two) (differences_from 0 (f i) (g i))))
 
--- log two, by its number
-module _ (p : Panel) (rom list : List ℕ) (x : RanWhole) {y : RanWhole} {ran : Ran} {m : List ℕ} (e : ran_whole ran m ≡ y) where
-  abbrev lists : RanWhole → ComparedAll
-  lists z =
-      compared_list x.memory z.memory (dots_apart p x.ran.registers.display x.memory z.ran.registers.display z.memory rom)
-      (entered_of list (memory_apart x z) (registers_apart x z))
-
-  second-by : (t : Bool) → eqb ran.number 0 ≡ t
-      → cond t (lists (ran_whole ran m)) (compared_all (uncompared ran.number ran.place 2) x.memory m list) ≡ after_two p rom list x y
-  unfolding after_two
-  second-by t f =
-      (λ i. cond (sym f i) (lists (ran_whole ran m)) (compared_all (uncompared ran.number ran.place 2) x.memory m list))
-      ∙ ap (λ (z : RanWhole). cond (eqb z.ran.number 0) (lists z) (compared_all (uncompared z.ran.number z.ran.place 2) x.memory z.memory list)) e
-
-  pub second-refused : {c : Compared} → (ran.number ≡ 0 → ⊥) → c ≡ uncompared ran.number ran.place 2 → compared_all c x.memory m list ≡ after_two p rom list x y
-  second-refused z h = ap (λ (c : Compared). compared_all c x.memory m list) h ∙ second-by false (ne_eqb ran.number 0 z)
-
-  pub second-lists : {o : ComparedAll} → ran.number ≡ 0 → o ≡ lists (ran_whole ran m) → o ≡ after_two p rom list x y
-  second-lists z h = h ∙ second-by true (eq-eqb ran.number 0 z)
-
--- log one, by its number; the second memory is a copy of the first as it was
-module _ (p : Panel) (one rom log list : List ℕ) {two : List ℕ} (c : two ≡ one) {y : RanWhole} {ran : Ran} {m : List ℕ} (e : ran_whole ran m ≡ y) where
-  first_by : (t : Bool) → eqb ran.number 0 ≡ t
-      → cond t (after_two p rom list (ran_whole ran m) (whole_of p reset_registers one rom log)) (compared_all (uncompared ran.number ran.place 1) m one list) ≡ after_one p one rom log list y
-  unfolding after_one
-  first_by t f =
-      (λ i. cond (sym f i) (after_two p rom list (ran_whole ran m) (whole_of p reset_registers one rom log)) (compared_all (uncompared ran.number ran.place 1) m one list))
-      ∙ ap (λ (z : RanWhole). cond (eqb z.ran.number 0) (after_two p rom list z (whole_of p reset_registers one rom log)) (compared_all (uncompared z.ran.number z.ran.place 1) z.memory one list)) e
-
-  pub first-refused : {x : Compared} → (ran.number ≡ 0 → ⊥) → x ≡ uncompared ran.number ran.place 1 → compared_all x m two list ≡ after_one p one rom log list y
-  first-refused z h = (λ i. compared_all (h i) m (c i) list) ∙ first_by false (ne_eqb ran.number 0 z)
-
-  pub first_goes : {o : ComparedAll} → ran.number ≡ 0 → o ≡ after_two p rom list (ran_whole ran m) (whole_of p reset_registers two rom log) → o ≡ after_one p one rom log list y
-  first_goes z h =
-      h ∙ ap (λ (l : List ℕ). after_two p rom list (ran_whole ran m) (whole_of p reset_registers l rom log)) c ∙ first_by true (eq-eqb ran.number 0 z)
-
 -- the door
 module _ (p : Panel) (one two rom former latter list : List ℕ) {v : Bool} (i : v ≡ valid_panel p) where
-  abbrev runs : ComparedAll
-  runs = after_one p one rom latter list (whole_of p reset_registers one rom former)
-
-  doors : (a b : Bool) → v ≡ a → memories_fit one two rom ≡ b
-      → cond a (cond b runs (compared_all (uncompared 2 0 0) one two list)) (compared_all (uncompared 1 0 0) one two list) ≡ compare_of p one two rom former latter list
-  unfolding compare_of
-  doors a b e f =
-      sym (λ k. cond ((sym i ∙ e) k) (cond (f k) runs (compared_all (uncompared 2 0 0) one two list)) (compared_all (uncompared 1 0 0) one two list))
-
-  pub compares-1 : {c : Compared} → v ≡ false → c ≡ uncompared 1 0 0 → compared_all c one two list ≡ compare_of p one two rom former latter list
-  compares-1 e h = ap (λ (c : Compared). compared_all c one two list) h ∙ doors false (memories_fit one two rom) e refl
-
   module _ (e : v ≡ true) where
     pub compares-valid : valid_panel p ≡ true
     compares-valid = sym i ∙ e
-
-    pub compares-2 : {c : Compared} → memories_fit one two rom ≡ false → c ≡ uncompared 2 0 0 → compared_all c one two list ≡ compare_of p one two rom former latter list
-    compares-2 f h = ap (λ (c : Compared). compared_all c one two list) h ∙ doors true false e f
 
     module _ (f : memories_fit one two rom ≡ true) where
       lengths : (eqb (length one) 65536 ≡ true) × (eqb (length two) 65536 ≡ true) × (eqb (length rom) 1024 ≡ true)
@@ -156,14 +97,23 @@ module _ (p : Panel) (one two rom former latter list : List ℕ) {v : Bool} (i :
       pub compares-lent : lent_lengths one rom ≡ true
       compares-lent = both lengths.0 lengths.2
 
-      pub compares-alike : length one ≡ length two
-      compares-alike = eqb-true (length one) 65536 lengths.0 ∙ sym (eqb-true (length two) 65536 lengths.1)
-
-      pub compares-0 : {o : ComparedAll} → o ≡ runs → o ≡ compare_of p one two rom former latter list
-      compares-0 h = h ∙ doors true true e f
+same_compared : (x y : Result Differences Refused) → IfErr x (λ r. 1 ≤ r.number) → IfErr y (λ r. 1 ≤ r.number) → compared x ≡ compared y → x ≡ y
+same_compared (Ok d) (Ok e) i j h = λ q. Ok (record { memory = (h q).memory; registers = (h q).registers; dots = (h q).dots })
+same_compared (Ok d) (Err r) i j h = let n : 0 ≡ r.number = ap (λ (k : Compared). k.number) h in absurd (let w : ⊥ = omega (arith, n, j) in w)
+same_compared (Err r) (Ok d) i j h = let n : r.number ≡ 0 = ap (λ (k : Compared). k.number) h in absurd (let w : ⊥ = omega (arith, n, i) in w)
+same_compared (Err r) (Err s) i j h = λ q. Err (record { number = (h q).number; place = (h q).place; log = (h q).log })
 
 -- two replies that meet the promise are equal
 pub compare-settled : {x y : Compared} {a b c d e f : List ℕ} (p : Panel) (one two rom former latter list : List ℕ)
     → compared_all x a b c ≡ compare_of p one two rom former latter list → compared_all y d e f ≡ compare_of p one two rom former latter list
     → compared_all x a b c ≡ compared_all y d e f
 compare-settled p one two rom former latter list h k = settled h k
+
+-- two results that meet it are equal, since a refusal's number is at least 1
+pub compare-result-settled : {x y : Result Differences Refused} {a b c d e f : List ℕ} (p : Panel) (one two rom former latter list : List ℕ)
+    → IfErr x (λ r. 1 ≤ r.number) → IfErr y (λ r. 1 ≤ r.number)
+    → compared_all (compared x) a b c ≡ compare_of p one two rom former latter list → compared_all (compared y) d e f ≡ compare_of p one two rom former latter list
+    → (x ≡ y) × (a ≡ d) × (b ≡ e) × (c ≡ f)
+compare-result-settled {x} {y} p one two rom former latter list i j h k =
+    let e = settled h k in
+    (same_compared x y i j (ap (λ (o : ComparedAll). o.compared) e), ap (λ (o : ComparedAll). o.one) e, ap (λ (o : ComparedAll). o.two) e, ap (λ (o : ComparedAll). o.list) e)

@@ -2,7 +2,7 @@
 use Rattle.std.specs.Prelude.{◌≡◌, true, List, ℕ, ◌≤◌}
 use Rattle.state.specs.State.{valid_panel, valid_display}
 use Rattle.display.specs.Frame.{lent_lengths}
-use Rattle.entries.specs.declared.enter.Entered.{Entered}
+use Rattle.entries.specs.Entered.{Entered}
 use Rattle.comparison.specs.Types.{Panel, Display}
 
 -- few enough entries to be added up

@@ -1,14 +1,23 @@
 -- 02, Req 06: two logs from the same panel, memory and ROM, both from reset.
-use Rattle.std.specs.Prelude.{ℕ, ◌+◌, Bool, cond, ◌&&◌, List, eqb, length}
+use Rattle.std.specs.Prelude.{ℕ, Result, Ok, Err, ◌+◌, Bool, cond, ◌&&◌, List, eqb, length}
 use Rattle.state.specs.State.{valid_panel, reset_registers}
-use Rattle.entries.specs.declared.enter.Entered.{Entered}
 use Rattle.entries.specs.Listed.{Difference, differences_from}
-use Rattle.entries.specs.Entered.{EnteredAll, entered_of}
+use Rattle.entries.specs.Entered.{Entered, EnteredAll, entered_of}
 use Rattle.comparison.specs.Types.{Panel}
-use Rattle.comparison.specs.declared.compare.Compared.{Compared}
+use Rattle.comparison.specs.declared.compare.Compared.{Compared as Differences}
+use Rattle.comparison.specs.declared.compare.Refused.{Refused}
 use Rattle.whole.specs.Whole.{RanWhole, whole_of}
 use Rattle.image.specs.Registered.{register_values}
 use Rattle.comparison.specs.Apart.{dots_apart}
+
+-- a number, its place and the log it is of; the entries of memory, then of registers; the dots that differ
+pub record Compared : Type 0 where
+  pub number : ℕ
+  pub place : ℕ
+  pub log : ℕ
+  pub memory : ℕ
+  pub registers : ℕ
+  pub dots : ℕ
 
 -- a reply, both memories and the list then
 pub record ComparedAll : Type 0 where
@@ -23,6 +32,11 @@ compared_all c one two list = record { compared = c; one = one; two = two; list 
 -- a number, its place and the log it is of, 0 for neither; nothing is listed then
 abbrev pub uncompared : ℕ → ℕ → ℕ → Compared
 uncompared n place log = record { number = n; place = place; log = log; memory = 0; registers = 0; dots = 0 }
+
+-- what an answer of `compare` stands for
+abbrev pub compared : Result Differences Refused → Compared
+compared (Ok d) = record { number = 0; place = 0; log = 0; memory = d.memory; registers = d.registers; dots = d.dots }
+compared (Err e) = uncompared e.number e.place e.log
 
 -- two machines: their memories' differences, and their registers'
 abbrev pub memory_apart : RanWhole → RanWhole → List Difference

@@ -25,6 +25,7 @@ fn count_dots(one: &[u8], two: &[u8], dots: usize) -> usize
     ensures { result ≡ how_many dots (λ x. not (eqb (bit_of (get_or one.now (x / 8) 0) (7 - x % 8)) (bit_of (get_or two.now (x / 8) 0) (7 - x % 8)))) }
 {
     let mut count: usize = 0;
+    // kept over numbers, here and below: a dot is a bit of a byte, a row is painted by its number
     for x in 0..dots {
         count += differ(dot(one, x), dot(two, x));
     }
@@ -45,7 +46,7 @@ fn painted_row(panel: Panel, display: Display, mem: &[u8], rom: &[u8], row: usiz
 {
     let size = panel.row_size();
     let mut out = blank_row();
-    paint_one(panel, display, mem, rom, row, &mut out[..size]);
+    let _ = paint_one(panel, display, mem, rom, row, &mut out[..size]);
     out
 }
 

@@ -4,22 +4,23 @@ use mathlib.Core.Bool.{Bool, true, false, cond}
 use mathlib.Core.List.{List, [], ◌∷◌}
 use mathlib.Core.Logic.{◌⊎◌, inl, inr}
 use Prim.Native.Nat.{ℕ, zero, suc, ◌+◌, ◌≤◌}
-use native.Mathlib.Nat.{zero-add}
 use native.Mathlib.Omega.{arith}
 use lib.Dec.{eqb}
 use lib.ListN.{length, get_or}
 use Rattle.ground.proofs.Tests.{settled}
 use Rattle.contents.specs.declared.entry.Entry.{Entry}
-use Rattle.contents.specs.declared.ask.Asked.{Asked}
-use Rattle.contents.specs.declared.ask.Asked.TheVariants.{Body as Asked-Body, Refused}
-use Rattle.contents.specs.declared.open.Spans.{Spans}
+use Rattle.std.proofs.Common.{◌==◌, find, Option, Some, None}
+use Rattle.std.specs.Prelude.{Result, Ok, Err, IfOk}
+use Rattle.state.specs.Refusals.{number_of}
+use Rattle.state.specs.declared.refusal.Refused.{Refused as Turned}
+use Rattle.state.proofs.RefusalNumbers.{same_number}
+use Rattle.contents.specs.Replies.{asked, Asked, Body as Asked-Body, Refused, bodies}
+use Rattle.contents.specs.declared.spans.Span.{Span}
 use Rattle.contents.specs.Contents.{Body, Contents, sound, wrong, with_body, is_two, count_at, entries_at, entry_size, first_body, entry_at, wrong_entry, body_of, entries_from, opens, contents_of}
 use Rattle.contents.specs.Inside.{Inside}
-use Rattle.contents.specs.Spans.{spans_of, span_from}
 use Rattle.contents.specs.Asked.{body_at, body_in, asked_of}
 use Rattle.contents.proofs.Entries.{right, opened}
 use Rattle.contents.proofs.Soundness.{sound-book}
-use Rattle.contents.proofs.Spanning.{spans-stand, span-body}
 
 not_body : (n place : ℕ) {s e : ℕ} → Refused n place ≡ Asked-Body s e → ⊥
 not_body n place h = let z : ◌≡◌ {A = ℕ} 0 1 = cc in omega arith
@@ -28,32 +29,27 @@ not_body n place h = let z : ◌≡◌ {A = ℕ} 0 1 = cc in omega arith
 pub sound-few : (book : List ℕ) {bs : List Body} → contents_of book ≡ sound bs → length bs ≤ 64
 sound-few book h = (sound-book book h).opens.few
 
--- each answer, of the spans of a book
-module _ (book : List ℕ) (key : ℕ) {s : Spans} (i : s ≡ spans_of (is_two book) (contents_of book)) where
-  pub spans-few : s.count ≤ 64
-  spans-few = rw i (go (contents_of book) refl)
-    where
-      go : (x : Contents) → contents_of book ≡ x → (spans_of (is_two book) x).count ≤ 64
-      go (sound bs) e =
-          let l : length bs ≤ 64 = sound-few book e in
-          omega arith
-      go (wrong place) e = omega arith
+-- each answer, of the screens of a book
+pub asked-wrong : (book : List ℕ) (key : ℕ) {place : ℕ} → contents_of book ≡ wrong place → Refused 9 place ≡ asked_of book key
+unfolding asked_of
+asked-wrong book key h = ap (λ (x : Contents). body_in x key) (sym h)
 
-  pub asked-span : s.number ≡ 0 → {r : Asked} → r ≡ span_from s s.count 0 key → r ≡ asked_of book key
-  unfolding asked_of
-  asked-span z h = h ∙ ap (λ (x : Spans). span_from x x.count 0 key) i ∙ go (contents_of book) refl (ap (λ (x : Spans). x.number) (sym i) ∙ z)
-    where
-      go : (x : Contents) → contents_of book ≡ x → (spans_of (is_two book) x).number ≡ 0 → span_from (spans_of (is_two book) x) (spans_of (is_two book) x).count 0 key ≡ body_in x key
-      go (sound bs) e z = ap (λ (n : ℕ). span_from (spans_of (is_two book) (sound bs)) n 0 key) (zero-add (length bs)) ∙ span-body bs 0 key (spans-stand (is_two book) bs (sound-few book e))
-      go (wrong place) e z = absurd (omega arith)
+abbrev sought : Option Span → Asked
+sought (Some s) = Asked-Body s.start s.end
+sought None = Refused 10 0
 
-  pub asked-shut : (s.number ≡ 0 → ⊥) → Refused 9 s.place ≡ asked_of book key
-  unfolding asked_of
-  asked-shut z = ap (λ (x : Spans). Refused 9 x.place) i ∙ go (contents_of book) (λ e. z (ap (λ (x : Spans). x.number) i ∙ e))
-    where
-      go : (x : Contents) → ((spans_of (is_two book) x).number ≡ 0 → ⊥) → Refused 9 (spans_of (is_two book) x).place ≡ body_in x key
-      go (sound bs) z = absurd (z refl)
-      go (wrong place) z = refl
+sought-in : (ss : List Span) (key : ℕ) → sought (find (λ (s : Span). s.key == key) ss) ≡ body_at (bodies ss) key
+sought-in [] key = refl
+sought-in (s ∷ ss) key = go (s.key == key) (sought-in ss key)
+  where
+    go : (v : Bool) → sought (find (λ (x : Span). x.key == key) ss) ≡ body_at (bodies ss) key
+        → sought (cond v (Some s) (find (λ (x : Span). x.key == key) ss)) ≡ cond v (Asked-Body s.start s.end) (body_at (bodies ss) key)
+    go true h = refl
+    go false h = h
+
+pub asked-found : (book : List ℕ) (key : ℕ) (ss : List Span) {r : Option Span} → contents_of book ≡ sound (bodies ss) → r ≡ find (λ (s : Span). s.key == key) ss → sought r ≡ asked_of book key
+unfolding asked_of
+asked-found book key ss h f = ap sought f ∙ sought-in ss key ∙ ap (λ (x : Contents). body_in x key) (sym h)
 
 -- a body ends inside the book and not before it begins
 bodies-inside : (two : Bool) (book : List ℕ) (left at start least key : ℕ) {s e : ℕ} → start ≤ length book
@@ -119,6 +115,24 @@ asked-number book number {n} {place} = go (contents_of book)
     go (sound bs) h = inr (none bs h)
     go (wrong p) h = inl (cc)
 
+-- two answers that are read alike, each with the key that was asked for, are equal
+same_asked : (key : ℕ) (x y : Result Span Turned) → IfOk x (λ s. s.key ≡ key) → IfOk y (λ s. s.key ≡ key) → asked x ≡ asked y → x ≡ y
+same_asked key (Ok s) (Ok t) p q h =
+    let a : s.start ≡ t.start = cc in
+    let b : s.end ≡ t.end = cc in
+    λ i. Ok (record { key = (p ∙ sym q) i; start = a i; end = b i })
+same_asked key (Ok s) (Err e) p q h = absurd (not_body (number_of e.refusal) e.place (sym h))
+same_asked key (Err d) (Ok t) p q h = absurd (not_body (number_of d.refusal) d.place h)
+same_asked key (Err d) (Err e) p q h =
+    let a : number_of d.refusal ≡ number_of e.refusal = cc in
+    let b : d.place ≡ e.place = cc in
+    λ i. Err (record { refusal = same_number d.refusal e.refusal a i; place = b i })
+
 -- two replies that meet the promise of `ask` are equal
+pub ask-result-settled : {x y : Result Span Turned} (book : List ℕ) (number : ℕ) → IfOk x (λ s. s.key ≡ number) → IfOk y (λ s. s.key ≡ number)
+    → asked x ≡ asked_of book number → asked y ≡ asked_of book number → x ≡ y
+ask-result-settled {x} {y} book number p q h k = same_asked number x y p q (settled h k)
+
+-- the same of replies
 pub ask-settled : {x y : Asked} (book : List ℕ) (number : ℕ) → x ≡ asked_of book number → y ≡ asked_of book number → x ≡ y
 ask-settled book number h k = settled h k

@@ -3,4 +3,3 @@ pub mod Entries
 pub mod Numbers
 pub mod Opening
 pub mod Soundness
-pub mod Spanning

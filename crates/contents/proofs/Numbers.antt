@@ -4,8 +4,7 @@ use mathlib.Core.Bool.{Bool, true, false, cond, ◌||◌}
 use mathlib.Core.List.{List, [], ◌∷◌}
 use Prim.Native.Nat.{ℕ}
 use lib.Dec.{eqb}
-use Rattle.contents.specs.declared.ask.Asked.{Asked}
-use Rattle.contents.specs.declared.ask.Asked.TheVariants.{Body as Asked-Body}
+use Rattle.contents.specs.Replies.{Asked, Body as Asked-Body}
 use Rattle.contents.specs.Contents.{Body, Contents, sound, wrong, contents_of}
 use Rattle.contents.specs.Asked.{body_at, body_in, asked_of}
 use Rattle.contents.specs.Numbers.{present, contents_number, contents_place, asked_number, asked_place}

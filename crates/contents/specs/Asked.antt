@@ -1,7 +1,6 @@
 -- 01, Screens, 02, Req 10, and Numbers returned: a screen's body asked for by its number or identity.
 use Rattle.std.specs.Prelude.{ℕ, cond, List, [], ◌∷◌, eqb}
-use Rattle.contents.specs.declared.ask.Asked.{Asked}
-use Rattle.contents.specs.declared.ask.Asked.TheVariants.{Body as Asked-Body, Refused}
+use Rattle.contents.specs.Replies.{Asked, Body as Asked-Body, Refused}
 use Rattle.contents.specs.Contents.{Body, Contents, sound, wrong, contents_of}
 
 -- 10 no screen has it

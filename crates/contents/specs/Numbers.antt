@@ -1,7 +1,6 @@
 -- 01, Numbers returned: the number and place of a screen asked for.
 use Rattle.std.specs.Prelude.{ℕ, Bool, false, cond, ◌||◌, List, [], ◌∷◌, eqb}
-use Rattle.contents.specs.declared.ask.Asked.{Asked}
-use Rattle.contents.specs.declared.ask.Asked.TheVariants.{Body as Asked-Body, Refused}
+use Rattle.contents.specs.Replies.{Asked, Body as Asked-Body, Refused}
 use Rattle.contents.specs.Contents.{Body, Contents, sound, wrong}
 
 -- one of the screens has that number or identity

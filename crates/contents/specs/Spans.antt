@@ -1,10 +1,8 @@
 -- 02, Req 10: a book's contents by value: keys, starts and ends of its bodies, each at the front of 64 zeros.
-use Rattle.std.specs.Prelude.{ℕ, zero, suc, ◌+◌, Bool, false, cond, List, [], ◌∷◌, eqb, length, get_or}
+use Rattle.std.specs.Prelude.{ℕ, ◌+◌, Bool, false, List, [], ◌∷◌, length}
 use Rattle.std.proofs.lemmas.List.Edits.{sets}
 use Rattle.ground.specs.Lists.{zeros}
-use Rattle.contents.specs.declared.ask.Asked.{Asked}
-use Rattle.contents.specs.declared.ask.Asked.TheVariants.{Body as Asked-Body, Refused}
-use Rattle.contents.specs.declared.open.Spans.{Spans}
+use Rattle.contents.specs.Replies.{Spans}
 use Rattle.contents.specs.Contents.{Body, Contents, sound, wrong}
 
 abbrev pub keys_of : List Body → List ℕ
@@ -40,9 +38,3 @@ spans_on two i keys starts ends (wrong place) = shut_spans 9 place
 -- the form, and the bodies; 9 with its place
 abbrev pub spans_of : Bool → Contents → Spans
 spans_of two x = spans_on two 0 (zeros 64) (zeros 64) (zeros 64) x
-
--- the body of a key among so many spans from one on
-unfoldable pub span_from : Spans → ℕ → ℕ → ℕ → Asked
-span_from s zero i key = Refused 10 0
-span_from s (suc left) i key =
-    cond (eqb (get_or s.keys i 0) key) (Asked-Body (get_or s.starts i 0) (get_or s.ends i 0)) (span_from s left (i + 1) key)

@@ -1,43 +1,32 @@
 // A screen's body asked for.
-ghost use Rattle.std.specs.Prelude.{◌≡◌, ◌≤◌};
+ghost use Rattle.std.specs.Prelude.{◌≡◌, ◌≤◌, ◌==◌, find, IfOk, IfSome};
 ghost use Rattle.contents.specs.Contents.{contents_of};
-ghost use Rattle.contents.specs.Spans.{span_from};
 ghost use Rattle.contents.specs.Asked.{asked_of};
 ghost use Rattle.contents.specs.Numbers.{contents_number, contents_place, asked_number, asked_place};
+ghost use Rattle.contents.specs.Replies.{asked};
 
-use super::open::{Spans, open};
+use super::open::open;
+use super::spans::Span;
+use state::refusal::{Refusal, Refused};
 
-// A screen's body, its first byte and the byte behind it; or a refusal with its place.
-#[derive(Clone, Copy)]
-pub enum Asked {
-    Body(usize, usize),
-    Refused(u8, usize),
+// The screen of a key.
+fn sought(spans: &[Span], key: usize) -> Option<Span>
+    ensures value { result ≡ find (λ s. s.key == key) spans.now }
+    ensures key { IfSome result (λ s. s.key ≡ key) }
+{
+    spans.iter().copied().find(|span| span.key as usize == key)
 }
 
-// The body of a key among the spans of a book.
-fn span(spans: Spans, key: usize) -> Asked
-    requires { spans.count ≤ 64 }
-    ensures { result ≡ span_from spans spans.count 0 key }
+/// The body of the screen that `key` asks for: its number in form one, its identity in form two. All entries are judged,
+/// whichever is asked for: `WrongBook` with the place of the first wrong entry, then `NoSuchScreen` with place 0.
+pub fn ask(book: &[u8], key: usize) -> Result<Span, Refused>
+    ensures value { asked result ≡ asked_of book.now key }
+    ensures result_value { (asked_number (asked result) ≡ contents_number (contents_of book.now) key) × (asked_place (asked result) ≡ contents_place (contents_of book.now)) }
+    ensures key { IfOk result (λ s. s.key ≡ key) }
 {
-    let count = spans.count;
-    let mut i: usize = 0;
-    while i < count {
-        if spans.keys[i] as usize == key {
-            return Asked::Body(spans.starts[i], spans.ends[i]);
-        }
-        i += 1;
+    let spans = open(book)?;
+    match sought(spans.all(), key) {
+        Some(span) => Ok(span),
+        None => Err(Refusal::NoSuchScreen.into()),
     }
-    Asked::Refused(10, 0)
-}
-
-// The body of a screen. All entries are judged, whichever is asked for.
-pub fn ask(book: &[u8], key: usize) -> Asked
-    ensures value { result ≡ asked_of book.now key }
-    ensures result_value { (asked_number result ≡ contents_number (contents_of book.now) key) × (asked_place result ≡ contents_place (contents_of book.now)) }
-{
-    let spans = open(book);
-    if spans.number == 0 {
-        return span(spans, key);
-    }
-    Asked::Refused(9, spans.place)
 }

@@ -4,19 +4,17 @@ ghost use Rattle.contents.specs.Contents.{word_at};
 
 use ground::bytes::word;
 
-// A byte of the book, 0 behind its end.
+// A place beside the book, here and below: it is what is asked about, and docs/PROMISES.md names both.
+/// A byte of the book, 0 behind its end.
 pub fn byte_at(book: &[u8], at: usize) -> u8
     ensures { result ≡ get_or book.now at 0 }
 {
-    if at < book.len() { book[at] } else { 0 }
+    book.get(at).copied().unwrap_or(0)
 }
 
-// 16 bits, low byte first; 0 behind its end.
+/// 16 bits, low byte first; 0 behind its end.
 pub fn word_at(book: &[u8], at: usize) -> u16
     ensures { result ≡ word_at book.now at }
 {
-    if at < book.len() {
-        return word(byte_at(book, at), byte_at(book, at + 1));
-    }
-    0
+    word(byte_at(book, at), byte_at(book, at.saturating_add(1)))
 }

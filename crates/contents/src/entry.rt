@@ -4,36 +4,36 @@ ghost use Rattle.contents.specs.Contents.{count_at, entries_at, entry_size, firs
 
 use super::bytes::word_at;
 
-// What a screen is asked for by, and where its body begins and how long it is.
-#[derive(Clone, Copy)]
+/// What a screen is asked for by, and where its body begins and how long it is.
+#[derive(Clone, Copy, Debug, PartialEq, Eq)]
 pub struct Entry {
     pub key: u16,
     pub offset: u16,
     pub size: u16,
 }
 
-// The byte that holds n.
+/// The byte that holds n. The form is a `bool` here and below: the definitions and the pages name these functions so.
 pub fn count_at(two: bool) -> usize
     ensures { result ≡ count_at two }
 {
     if two { 1 } else { 0 }
 }
 
-// The byte of the first entry.
+/// The byte of the first entry.
 pub fn entries_at(two: bool) -> usize
     ensures { result ≡ entries_at two }
 {
     if two { 2 } else { 1 }
 }
 
-// The bytes of an entry.
+/// The bytes of an entry.
 pub fn entry_size(two: bool) -> usize
     ensures { result ≡ entry_size two }
 {
     if two { 6 } else { 4 }
 }
 
-// The byte of the first body, of n.
+/// The byte of the first body, of n screens.
 pub fn first_body(two: bool, n: u8) -> usize
     ensures { result ≡ first_body two n }
 {

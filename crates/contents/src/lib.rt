@@ -5,3 +5,4 @@ pub mod ask;
 pub mod bytes;
 pub mod entry;
 pub mod open;
+pub mod spans;

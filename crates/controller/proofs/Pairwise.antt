@@ -2,6 +2,9 @@
 use mathlib.Core.Path.{◌≡◌, refl, ap, sym, subst, ◌∙◌}
 use mathlib.Core.Bool.{Bool, true, false, cond, not, ◌&&◌, ◌||◌, false≢true}
 use mathlib.Core.List.{List, [], ◌∷◌}
+use Rattle.std.proofs.Common.{Option, Some, None}
+use Rattle.single.specs.Outcome.{entered_of}
+use Rattle.controller.proofs.Readied.{entered-runs}
 use Prim.Native.Nat.{ℕ, zero, suc, ◌+◌, ◌-◌, ◌*◌, ◌/◌, ◌%◌, ◌<◌, ◌≤◌}
 use native.Mathlib.Decide.{dec_lt}
 use native.Mathlib.Omega.{arith}
@@ -14,20 +17,22 @@ use Rattle.ground.proofs.Tests.{cond_has, both, both_left, both_right}
 use Rattle.ground.proofs.Stores.{stored-length}
 use Rattle.state.specs.State.{valid_panel, none}
 use Rattle.codes.specs.Command.{is_off}
-use Rattle.controller.specs.Types.{Panel, Display, Auto, Off, Write, Read, Bus, Registers, RanOn, Turned, Noted, Told, Drawn, Asked}
+use Rattle.controller.specs.Types.{Panel, Display, Auto, Off, Write, Read, Bus, Registers, RanOn, Turned, Noted, Told}
+use Rattle.usual.specs.Done.{drawn, asked}
+use Rattle.usual.specs.declared.ask.Asked.{Asked as Given}
 use Rattle.effects.specs.Effect.{with_bus, with_pointer, with_auto, with_pending, with_phase, pushed, is_write}
-use Rattle.controller.specs.Access.{Pair, Step, done, answered, refused, data_write_of, step_of, access_of}
+use Rattle.controller.specs.Access.{Pair, Step, done, answered, refused, data_write_of, step_of}
 use Rattle.effects.specs.Machine.{Machine, machine}
 use Rattle.controller.specs.Run.{pairs_of, Standing, Turn, went, halted, turn_of, run_from}
 use Rattle.controller.specs.Skip.{Skipping, passed_by, skip_by, skip_step, ran_on_all, ran_on_of}
 use Rattle.usual.specs.Ready.{Tells, Draws, Asks}
 use Rattle.usual.proofs.Tells.{leaves}
-use Rattle.controller.specs.Ready.{Runs, Blocked, pairs_from, data_of, standing, standing_on, TurnedAll, turned_all, turned_of, turned_by, NotedAll, noted_all, noted_of}
+use Rattle.controller.specs.Ready.{Runs, Blocked, pairs_from, data_of, standing, standing_on, TurnedAll, turned_all, turned_of, NotedAll, noted_all, noted_of}
 use Rattle.controller.proofs.Blocks.{pair_at, pairs-behind, write-only, block_run}
 use Rattle.controller.proofs.Laws.{Sounds, sounds-valid, step-sound}
 use Rattle.controller.proofs.Splits.{projected}
 use Rattle.controller.proofs.Goings.{Leaves, Proper, goes, stops, Going, going, going-ends, going-halts, going-went, going_done, going-answers}
-use Rattle.controller.proofs.Turns.{Answering, answers, declines, Acting, acts, refuses, step-answering, step-acting, step-number, turned-runs}
+use Rattle.controller.proofs.Turns.{Answering, answers, declines, Acting, acts, refuses, step-answering, step-acting, step-number}
 
 answering-proper : (s : Standing Machine) {o : Step Machine} → Answering s.machine o → Proper (turn_of s o)
 answering-proper s answers = cond_has Proper (ltb s.given (length s.answers)) goes stops
@@ -174,14 +179,14 @@ module _ {p : Panel} {on : Bool} {rom log : List ℕ} {total : ℕ} {s₀ : Stan
         → Running p on rom log total s₀ (record { machine = m; answers = set s.answers s.given b; given = s.given + 1 }) skips listed (i + 1)
     running-answers n e x r = record { goes_on = going-answers steps Kind (skip-sound p rom on _) g.goes_on h l n e (ap (skip_by on (standing_on s skips listed i).machine) x) r }
 
-    module _ {t : Turned} {m a : List ℕ} {x : Noted} {b : List ℕ} (k : Runs p s.machine.registers s.machine.memory rom)
-        (e : turned_all t m a ≡ turned_by (eqb (get_or log (2 * i) 0) 2 || eqb (get_or log (2 * i) 0) 3) (access_of p s.machine.registers s.machine.memory rom (pair_at log i)) s.machine.registers s.answers s.given)
+    module _ {t : Turned} {m a : List ℕ} {x : Noted} {b : List ℕ}
+        (e : turned_all t m a ≡ turned_of s (turn_of s (step_of p rom s.machine (pair_at log i))))
         (f : noted_all x b ≡ noted_of on t.number i skips listed) where
       comes : Outcome (standing_on s skips listed i) (turn_of (standing_on s skips listed i) (steps (standing_on s skips listed i).machine (pair_at log i))) (turned_all t m a) (noted_all x b)
       comes =
           let o = outcome on (standing_on s skips listed i) (step_of p rom s.machine (pair_at log i)) (step-number p rom s.machine (get_or log (2 * i) 0) (get_or log (2 * i + 1) 0)) in
           subst (λ (y : NotedAll). Outcome (standing_on s skips listed i) (turn_of (standing_on s skips listed i) (steps (standing_on s skips listed i).machine (pair_at log i))) (turned_all t m a) y) (sym f)
-          (subst (λ (y : TurnedAll). Outcome (standing_on s skips listed i) (turn_of (standing_on s skips listed i) (steps (standing_on s skips listed i).machine (pair_at log i))) y (noted_of on y.turned.number i skips listed)) (sym (e ∙ turned-runs k s.answers s.given (get_or log (2 * i) 0) (get_or log (2 * i + 1) 0))) o)
+          (subst (λ (y : TurnedAll). Outcome (standing_on s skips listed i) (turn_of (standing_on s skips listed i) (steps (standing_on s skips listed i).machine (pair_at log i))) y (noted_of on y.turned.number i skips listed)) (sym e) o)
 
       -- a pair taken, or listed
       pub going_on : x.number ≡ 0 → Running p on rom log total s₀ (standing t.registers m a t.given) b x.listed (i + 1)
@@ -207,6 +212,16 @@ module _ {p : Panel} {on : Bool} {rom log : List ℕ} {total : ℕ} {s₀ : Stan
           go (went _) y u takes z w = absurd (z refl)
           go (halted (suc n)) y u ends z w = ap ran_on_of (going-halts steps Kind (skip-sound p rom on _) g.goes_on h l w)
           go (halted zero) y u x6 z w = elim x6 [ ]
+
+    module _ (k : Runs p s.machine.registers s.machine.memory rom) where
+      abbrev taken_here : Turn Machine
+      taken_here = turn_of (standing s.machine.registers s.machine.memory s.answers s.given) (entered_of p s.machine.registers s.machine.memory rom (pair_at log i))
+
+      here : taken_here ≡ turn_of s (step_of p rom s.machine (pair_at log i))
+      here = ap (turn_of s) (entered-runs k (pair_at log i))
+
+      pub turned-here : turned_of (standing s.machine.registers s.machine.memory s.answers s.given) taken_here ≡ turned_of s (turn_of s (step_of p rom s.machine (pair_at log i)))
+      turned-here = ap (turned_of s) here
 
   -- a block of data in auto write
   pub going-block : {b : Bool} → b ≡ is_write s.machine.registers.bus.auto → (eqb (get_or log (2 * i) 0) 0 && b) ≡ true
@@ -245,11 +260,13 @@ off-only Read e = absurd (false≢true e)
 -- the pairs that are taken apart from the others
 module _ {p : Panel} {on : Bool} {rom log : List ℕ} {total : ℕ} {s₀ : Standing (Skipping Machine)} {d : Display} {b : Bus} {m a : List ℕ} {n : ℕ} {skips : List ℕ} {listed i : ℕ}
     (g : Running p on rom log total s₀ (standing (record { display = d; bus = b }) m a n) skips listed i) where
+  -- left by `tell`, and by `ask`
   pub going-kept : {after : List ℕ} → after ≡ m → Running p on rom log total s₀ (standing (record { display = d; bus = b }) after a n) skips listed i
   going-kept e = subst (λ (x : List ℕ). Running p on rom log total s₀ (standing (record { display = d; bus = b }) x a n) skips listed i) (sym e) g
 
-  pub going-held : {after : List ℕ} → after ≡ a → Running p on rom log total s₀ (standing (record { display = d; bus = b }) m after n) skips listed i
-  going-held e = subst (λ (x : List ℕ). Running p on rom log total s₀ (standing (record { display = d; bus = b }) m x n) skips listed i) (sym e) g
+  pub going-held : {phase : Bool} {kind : ℕ} {o : Option Given} {after : List ℕ} → Asks phase b m a n kind (asked b n o) after → o ≡ None
+      → Running p on rom log total s₀ (standing (record { display = d; bus = b }) m after n) skips listed i
+  going-held {o = o} x t = let e = x.keeps (ap (λ (o : Option Given). (asked b n o).done) t) in subst (λ (x : List ℕ). Running p on rom log total s₀ (standing (record { display = d; bus = b }) m x n) skips listed i) (sym e) g
 
   module _ (h : i < total) (l : 2 * total ≤ length log) where
     pub going-ticks : get_or log (2 * i) 0 ≡ 4 → {x : Display} → x ≡ with_phase d (not d.phase)
@@ -264,10 +281,10 @@ module _ {p : Panel} {on : Bool} {rom log : List ℕ} {total : ℕ} {s₀ : Stan
         (eqb-true (get_or log (2 * i + 1) 0) 0xb2 (both_right (eqb (get_or log (2 * i) 0) 1) (eqb (get_or log (2 * i + 1) 0) 0xb2) t)) {next = with_auto b Off} refl
         ∙ (λ t. done (machine (record { display = d; bus = sym f t }) m)))
 
-    pub going-asks : {u : Asked} {after : List ℕ} → Asks d.phase b m a n (get_or log (2 * i) 0) u after → u.done ≡ true
+    pub going-asks : {o : Option Given} {u : Given} {after : List ℕ} → Asks d.phase b m a n (get_or log (2 * i) 0) (asked b n o) after → o ≡ Some u
         → Running p on rom log total s₀ (standing (record { display = d; bus = u.bus }) m after u.given) skips listed (i + 1)
-    going-asks {u} {after} k e =
-        let x = k.acts e p rom d (get_or log (2 * i + 1) 0) refl in
+    going-asks {o} {u} {after} k e =
+        let x = (subst (λ (o : Option Given). Asks d.phase b m a n (get_or log (2 * i) 0) (asked b n o) after) e k).acts refl p rom d (get_or log (2 * i + 1) 0) refl in
         subst (λ (w : List ℕ). Running p on rom log total s₀ (standing (record { display = d; bus = u.bus }) m w u.given) skips listed (i + 1)) (sym x.holds)
         (subst (λ (w : ℕ). Running p on rom log total s₀ (standing (record { display = d; bus = u.bus }) m (set a n x.byte) w) skips listed (i + 1)) (sym x.counts)
         (running-answers g h l _ refl x.steps x.room))
@@ -286,8 +303,9 @@ module _ {p : Panel} {on : Bool} {rom log : List ℕ} {total : ℕ} {s₀ : Stan
           running-done g h l 1 (eqb-true (get_or log (2 * i) 0) 1 (both_left (eqb (get_or log (2 * i) 0) 1) off (k.quiet t)))
           (k.acts t (sym e ∙ both_right (eqb (get_or log (2 * i) 0) 1) off (k.quiet t)) p rom d)
 
-      pub going-draws : {drawn : Drawn} → Draws d (eqb (get_or log (2 * i) 0) 1 && off) (get_or log (2 * i + 1) 0) drawn → drawn.done ≡ true → {next : Bus} → next ≡ with_pending b none
-          → Running p on rom log total s₀ (standing (record { display = drawn.display; bus = next }) m a n) skips listed (i + 1)
-      going-draws {drawn} k t f =
-          running-done g h l 1 (eqb-true (get_or log (2 * i) 0) 1 (both_left (eqb (get_or log (2 * i) 0) 1) off (k.quiet t)))
-          (k.acts t b (sym e ∙ both_right (eqb (get_or log (2 * i) 0) 1) off (k.quiet t)) p rom m ∙ (λ t. done (machine (record { display = drawn.display; bus = sym f t }) m)))
+      pub going-draws : {o : Option Display} {x : Display} → Draws d (eqb (get_or log (2 * i) 0) 1 && off) (get_or log (2 * i + 1) 0) (drawn d o) → o ≡ Some x → {next : Bus} → next ≡ with_pending b none
+          → Running p on rom log total s₀ (standing (record { display = x; bus = next }) m a n) skips listed (i + 1)
+      going-draws {x = x} y t f =
+          let k = subst (λ (o : Option Display). Draws d (eqb (get_or log (2 * i) 0) 1 && off) (get_or log (2 * i + 1) 0) (drawn d o)) t y in
+          running-done g h l 1 (eqb-true (get_or log (2 * i) 0) 1 (both_left (eqb (get_or log (2 * i) 0) 1) off (k.quiet refl)))
+          (k.acts refl b (sym e ∙ both_right (eqb (get_or log (2 * i) 0) 1) off (k.quiet refl)) p rom m ∙ (λ t. done (machine (record { display = x; bus = sym f t }) m)))

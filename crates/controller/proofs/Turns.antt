@@ -1,23 +1,19 @@
 -- One turn of a run: which steps answer, that a refusal's number is 3 to 7, and what the code's turn comes to.
 use Rattle.std.proofs.Common.{zero}
-use mathlib.Core.Path.{◌≡◌, refl, ap, sym, subst, ◌∙◌}
+use mathlib.Core.Path.{◌≡◌, refl, ap, sym, subst}
 use mathlib.Core.Logic.{◌⊎◌, inl, inr}
 use mathlib.Core.Bool.{Bool, true, false, cond, ◌||◌, true≢false}
 use mathlib.Core.List.{List}
-use Prim.Native.Nat.{ℕ, suc, ◌+◌, ◌<◌, ◌≤◌}
+use Prim.Native.Nat.{ℕ, suc, ◌<◌, ◌≤◌}
 use native.Mathlib.Omega.{arith}
-use lib.Dec.{ltb, leb, eqb, eqb-suc-zero}
-use lib.ListN.{length, set}
+use lib.Dec.{leb, eqb}
 use borrow.Author.Tests.{eqb-true}
 use Rattle.ground.proofs.Tests.{cond_has, either}
 use Rattle.codes.specs.Command.{needed_of, is_off, ends_auto, decode_of}
-use Rattle.controller.specs.Types.{Panel, Registers, Auto, Off, Write, Read, Command, Decoded, Defined, Undefined, Acted, Turned}
+use Rattle.controller.specs.Types.{Panel, Registers, Auto, Off, Write, Read, Command, Decoded, Defined, Undefined}
 use Rattle.effects.specs.Effect.{status_of}
-use Rattle.controller.specs.Access.{Step, done, answered, refused, Accessed, obey_of, command_of, data_write_of, data_read_of, tick_of, step_of, replied, acted_of, access_of}
+use Rattle.controller.specs.Access.{Step, done, answered, refused, obey_of, command_of, data_write_of, data_read_of, tick_of, step_of}
 use Rattle.effects.specs.Machine.{Machine, machine}
-use Rattle.controller.specs.Run.{went, halted, turn_of}
-use Rattle.controller.specs.Ready.{Runs, standing, turned_all, turned_of, taken_of, AnsweredAll, answered_all, answered_of, turned_by}
-use Rattle.controller.proofs.Readied.{access-runs}
 
 -- from s a step that answers and leaves memory, or is refused by a number from 3 to 7
 pub data Answering (s : Machine) : Step Machine → Type 0 where
@@ -98,70 +94,3 @@ module _ (p : Panel) (rom : List ℕ) (s : Machine) where
       go : (t : Bool) → (eqb k 2 || eqb k 3) ≡ t → (3 ≤ n) × (n ≤ 7)
       go true h = by-answering _ (step-answering k b h) e
       go false h = by-acting _ (step-acting k b h) e
-
--- the code's turn, by its access
-module _ (r : Registers) (answers : List ℕ) (given : ℕ) {a : Acted} {m : List ℕ} {o : Accessed} (e : replied a m ≡ o) {t : Bool} {x : Turned} where
-  pub turned-reads : t ≡ true → {b : List ℕ} → answered_all x b ≡ answered_of a r answers given → turned_all x m b ≡ turned_by t o r answers given
-  turned-reads h f = (λ i. turned_all (f i).turned m (f i).answers) ∙ (λ i. turned_by (sym h i) (e i) r answers given)
-
-  pub turned-acts : t ≡ false → x ≡ taken_of a r given → turned_all x m answers ≡ turned_by t o r answers given
-  turned-acts h f = (λ i. turned_all (f i) m answers) ∙ (λ i. turned_by (sym h i) (e i) r answers given)
-
--- what the code's turn comes to
-module _ (r : Registers) (m answers₀ : List ℕ) (given : ℕ) {a : Acted} {m' : List ℕ} where
-  -- an access that acts
-  pub turn-taken : (o : Step Machine) → Acting o → replied a m' ≡ acted_of r m o → {x : Turned} → x ≡ taken_of a r given
-      → turned_all x m' answers₀ ≡ turned_of (standing r m answers₀ given) (turn_of (standing r m answers₀ given) o)
-  turn-taken (done s) acts e h =
-      ap (λ (x : Turned). turned_all x m' answers₀) h ∙ (λ i. turned_all (taken_of (e i).acted r given) (e i).memory answers₀)
-  turn-taken (refused (suc n)) (refuses many few) e h =
-      ap (λ (x : Turned). turned_all x m' answers₀) h ∙ (λ i. turned_all (taken_of (e i).acted r given) (e i).memory answers₀)
-      ∙ ap
-      (λ (t : Bool). turned_all (cond t (record { number = 0; registers = r; given = given }) (record { number = suc n; registers = r; given = given })) m answers₀)
-      (eqb-suc-zero n)
-  turn-taken (answered _ _) x7 e h = elim x7 [ ]
-  turn-taken (refused zero) x9 e h = elim x9 [ ]
-
-  -- a read
-  pub turn-answered : (o : Step Machine) → Answering (machine r m) o → replied a m' ≡ acted_of r m o → {x : Turned} {b : List ℕ}
-      → answered_all x b ≡ answered_of a r answers₀ given
-      → turned_all x m' b ≡ turned_of (standing r m answers₀ given) (turn_of (standing r m answers₀ given) o)
-  turn-answered (answered s b) answers e h =
-      (λ i. turned_all (h i).turned m' (h i).answers)
-      ∙ (λ i. turned_all (answered_of (e i).acted r answers₀ given).turned (e i).memory (answered_of (e i).acted r answers₀ given).answers)
-      ∙ go (ltb given (length answers₀))
-    where
-      go : (t : Bool)
-          → turned_all (cond t (answered_all (record { number = 0; registers = s.registers; given = given + 1 }) (set answers₀ given b)) (answered_all (record { number = 13; registers = r; given = given }) answers₀)).turned m
-          (cond t (answered_all (record { number = 0; registers = s.registers; given = given + 1 }) (set answers₀ given b)) (answered_all (record { number = 13; registers = r; given = given }) answers₀)).answers
-          ≡ turned_of (standing r m answers₀ given) (cond t (went (record { machine = s; answers = set answers₀ given b; given = given + 1 })) (halted 13))
-      go true = refl
-      go false = refl
-  turn-answered (refused (suc n)) (declines many few) e h =
-      (λ i. turned_all (h i).turned m' (h i).answers)
-      ∙ (λ i. turned_all (answered_of (e i).acted r answers₀ given).turned (e i).memory (answered_of (e i).acted r answers₀ given).answers)
-      ∙ ap
-      (λ (t : Bool). turned_all (cond t (go (ltb given (length answers₀))) (answered_all (record { number = suc n; registers = r; given = given }) answers₀)).turned m
-      (cond t (go (ltb given (length answers₀))) (answered_all (record { number = suc n; registers = r; given = given }) answers₀)).answers)
-      (eqb-suc-zero n)
-    where
-      go : Bool → AnsweredAll
-      go u = cond u (answered_all (record { number = 0; registers = r; given = given + 1 }) (set answers₀ given 0)) (answered_all (record { number = 13; registers = r; given = given }) answers₀)
-  turn-answered (done _) x6 e {b = b} h = elim x6 [ ]
-  turn-answered (refused zero) x11 e {b = b} h = elim x11 [ ]
-
--- inside a run a turn is its step's
-pub turned-runs : {p : Panel} {r : Registers} {mem rom : List ℕ} → Runs p r mem rom → (answers₀ : List ℕ) (given k b : ℕ)
-    → turned_by (eqb k 2 || eqb k 3) (access_of p r mem rom (record { kind = k; byte = b })) r answers₀ given
-    ≡ turned_of (standing r mem answers₀ given) (turn_of (standing r mem answers₀ given) (step_of p rom (machine r mem) (record { kind = k; byte = b })))
-turned-runs {p} {r} {mem} {rom} runs answers₀ given k b = go (eqb k 2 || eqb k 3) refl
-  where
-    go : (t : Bool) → (eqb k 2 || eqb k 3) ≡ t
-        → turned_by t (access_of p r mem rom (record { kind = k; byte = b })) r answers₀ given
-        ≡ turned_of (standing r mem answers₀ given) (turn_of (standing r mem answers₀ given) (step_of p rom (machine r mem) (record { kind = k; byte = b })))
-    go true h =
-        turn-answered r mem answers₀ given (step_of p rom (machine r mem) (record { kind = k; byte = b }))
-        (step-answering p rom (machine r mem) k b h) (access-runs runs (record { kind = k; byte = b })) refl
-    go false h =
-        turn-taken r mem answers₀ given (step_of p rom (machine r mem) (record { kind = k; byte = b }))
-        (step-acting p rom (machine r mem) k b h) (access-runs runs (record { kind = k; byte = b })) refl

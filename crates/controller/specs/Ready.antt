@@ -1,5 +1,5 @@
 -- What inner routines rest on, tested once at the door, and what they give.
-use Rattle.std.specs.Prelude.{◌≡◌, Bool, true, cond, List, ℕ}
+use Rattle.std.specs.Prelude.{◌≡◌, Bool, true, cond, List, ℕ, Result, Ok, Err}
 use Rattle.state.specs.State.{valid_panel, valid_registers}
 use Rattle.display.specs.Frame.{lent_lengths}
 use Rattle.controller.specs.Types.{Panel, Registers, Turned}
@@ -7,7 +7,8 @@ use Rattle.controller.specs.Access.{Accessed}
 use Rattle.effects.specs.Machine.{Machine, machine}
 use Rattle.controller.specs.Run.{Standing, Turn, went, halted}
 use Rattle.controller.specs.Skip.{Skipping}
-pub use Rattle.turns.specs.Turned.{taken_of, AnsweredAll, answered_all, answered_of}
+use Rattle.state.specs.Refusals.{number_of}
+use Rattle.state.specs.declared.refusal.Refusal.{Refusal}
 pub use Rattle.turns.specs.Blocked.{pairs_from, Blocked}
 unfoldable pub use Rattle.turns.specs.Blocked.{data_of}
 pub use Rattle.turns.specs.Noted.{NotedAll, noted_all, noted_of}
@@ -35,16 +36,14 @@ pub record TurnedAll : Type 0 where
 abbrev pub turned_all : Turned → List ℕ → List ℕ → TurnedAll
 turned_all turned memory answers = record { turned = turned; memory = memory; answers = answers }
 
--- a read gives its answer into the buffer
-abbrev pub turned_by : Bool → Accessed → Registers → List ℕ → ℕ → TurnedAll
-turned_by reads o r answers given =
-    cond reads
-    (turned_all (answered_of o.acted r answers given).turned o.memory (answered_of o.acted r answers given).answers)
-    (turned_all (taken_of o.acted r given) o.memory answers)
-
 -- where the pair is refused all is as it was
 abbrev pub turned_of : Standing Machine → Turn Machine → TurnedAll
 turned_of s (went t) =
     turned_all (record { number = 0; registers = t.machine.registers; given = t.given }) t.machine.memory t.answers
 turned_of s (halted n) =
     turned_all (record { number = n; registers = s.machine.registers; given = s.given }) s.machine.memory s.answers
+
+-- the turn that a result stands for: the answers so far, or why the pair is not taken
+abbrev pub turn_result : Result ℕ Refusal → Registers → List ℕ → List ℕ → Turn Machine
+turn_result (Ok given) r mem answers = went (standing r mem answers given)
+turn_result (Err e) r mem answers = halted (number_of e)

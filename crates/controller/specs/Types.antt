@@ -16,15 +16,12 @@ pub use Rattle.state.specs.declared.registers.Move.{Move}
 pub use Rattle.state.specs.declared.registers.Move.TheVariants.{Up, Down, Stay}
 pub use Rattle.codes.specs.declared.command.Command.{Command}
 pub use Rattle.codes.specs.declared.command.Command.TheVariants.{Set, Mode, DisplayMode, Height, Run, Store, Load, Peek, Copy, Bit}
-pub use Rattle.codes.specs.declared.decode.Decoded.{Decoded}
-pub use Rattle.codes.specs.declared.decode.Decoded.TheVariants.{Defined, Undefined}
-pub use Rattle.sight.specs.declared.position.Position.{Position}
-pub use Rattle.sight.specs.declared.position.Position.TheVariants.{At, Nowhere}
-pub use Rattle.state.specs.declared.reply.Acted.{Acted}
+pub use Rattle.codes.specs.Decoded.{Decoded, Defined, Undefined}
+pub use Rattle.sight.specs.Located.{Position, At, Nowhere}
+pub use Rattle.state.specs.Replies.{Acted}
 pub use Rattle.controller.specs.declared.run.Ran.{Ran}
 pub use Rattle.controller.specs.declared.run.RanOn.{RanOn}
 pub use Rattle.turns.specs.declared.note.Noted.{Noted}
-pub use Rattle.turns.specs.declared.turn.Turned.{Turned}
+pub use Rattle.controller.specs.declared.turn.Turned.{Turned}
 pub use Rattle.usual.specs.declared.tell.Told.{Told}
-pub use Rattle.usual.specs.declared.draw.Drawn.{Drawn}
-pub use Rattle.usual.specs.declared.ask.Asked.{Asked}
+pub use Rattle.usual.specs.Done.{Drawn, Asked}

@@ -8,7 +8,6 @@ ghost use Rattle.controller.specs.Ready.{Runs};
 use super::turn::turn;
 use codes::command::is_off;
 use effects::effect::is_write;
-use ground::bytes::lesser;
 use state::panel::Panel;
 use state::registers::Registers;
 use turns::block::{block, passed};
@@ -19,7 +18,7 @@ use usual::part::{datum, emptied, freed, ticked};
 use usual::tell::tell;
 
 // A number and place, the pairs taken, the answers written, the registers after.
-#[derive(Clone, Copy)]
+#[derive(Clone, Copy, Debug, PartialEq, Eq)]
 pub struct Ran {
     pub number: u8,
     pub place: usize,
@@ -29,7 +28,7 @@ pub struct Ran {
 }
 
 // A run that goes on after a refusal: what a run answers, and the pairs listed.
-#[derive(Clone, Copy)]
+#[derive(Clone, Copy, Debug, PartialEq, Eq)]
 pub struct RanOn {
     pub ran: Ran,
     pub skipped: usize,
@@ -79,6 +78,7 @@ fn pairs(
     let mut given: usize = 0;
     let mut listed: usize = 0;
     let mut i: usize = 0;
+    // a `while`, since a block takes many pairs at once
     while i < total {
         let kind = log[2 * i];
         let byte = log[2 * i + 1];
@@ -102,9 +102,8 @@ fn pairs(
             i += 1;
             continue;
         }
-        let drawn = draw(display, quiet, byte);
-        if drawn.done {
-            display = drawn.display;
+        if let Some(next) = draw(display, quiet, byte) {
+            display = next;
             bus = emptied(bus);
             i += 1;
             continue;
@@ -114,8 +113,7 @@ fn pairs(
             i += 1;
             continue;
         }
-        let asked = ask(display.phase, bus, mem, answers, given, kind);
-        if asked.done {
+        if let Some(asked) = ask(display.phase, bus, mem, answers, given, kind) {
             bus = asked.bus;
             given = asked.given;
             i += 1;
@@ -176,7 +174,7 @@ fn enter(
     if log.len() % 2 != 0 {
         return ended(8, whole, 0, 0, registers, 0);
     }
-    let total = lesser(limit, whole);
+    let total = limit.min(whole);
     pairs(
         panel, registers, mem, rom, log, total, answers, skips, skipping,
     )

@@ -1,30 +1,60 @@
 // One pair of a run by an access.
-ghost use Rattle.std.specs.Prelude.{◌≡◌, ◌||◌, eqb};
-ghost use Rattle.single.specs.Access.{access_of};
-ghost use Rattle.controller.specs.Ready.{turned_all, turned_by};
+ghost use Rattle.std.specs.Prelude.{◌≡◌};
+ghost use Rattle.single.specs.Outcome.{entered_of};
+ghost use Rattle.controller.specs.Run.{turn_of};
+ghost use Rattle.controller.specs.Ready.{standing, turned_all, turned_of};
 
-use single::access::access;
+use single::access::accessed;
 use state::panel::Panel;
 use state::registers::Registers;
-use turns::turn::{Turned, answered, taken};
 
-// What a read gives goes into the buffer.
+/// One pair of a run: the registers after, the answers so far, a number. The registers come first: a copy then begins where they were stored.
+#[derive(Clone, Copy, Debug, PartialEq, Eq)]
+pub(crate) struct Turned {
+    pub registers: Registers,
+    pub given: usize,
+    pub number: u8,
+}
+
+// One pair of a run, by value: a local that is lent would stay in memory for the whole loop. What a read gives goes into the buffer.
 pub(crate) fn turn(
     panel: Panel,
     registers: Registers,
-    mem: &mut [u8],
+    memory: &mut [u8],
     rom: &[u8],
     answers: &mut [u8],
     given: usize,
     kind: u8,
     byte: u8,
 ) -> Turned
-    ensures { turned_all result mem.new answers.new ≡ turned_by (eqb kind 2 || eqb kind 3) (access_of panel registers mem.old rom.now (record { kind = kind; byte = byte })) registers answers.old given }
+    ensures { turned_all result memory.new answers.new ≡ turned_of (standing registers memory.old answers.old given) (turn_of (standing registers memory.old answers.old given) (entered_of panel registers memory.old rom.now (record { kind = kind; byte = byte }))) }
 {
-    let acted = access(panel, registers, mem, rom, kind, byte);
-    if (kind == 2) | (kind == 3) {
-        answered(acted, registers, answers, given)
-    } else {
-        taken(acted, registers, given)
+    let done = accessed(panel, registers, memory, rom, kind, byte);
+    match done.answer {
+        Ok(None) => Turned {
+            registers: done.registers,
+            given,
+            number: 0,
+        },
+        Ok(Some(answer)) => {
+            if given < answers.len() {
+                answers[given] = answer;
+                return Turned {
+                    registers: done.registers,
+                    given: given + 1,
+                    number: 0,
+                };
+            }
+            Turned {
+                registers,
+                given,
+                number: 13,
+            }
+        }
+        Err(refusal) => Turned {
+            registers,
+            given,
+            number: refusal.number(),
+        },
     }
 }

@@ -11,16 +11,14 @@ use Rattle.ground.proofs.Tests.{settled}
 use Rattle.state.specs.declared.panel.Panel.{Panel}
 use Rattle.state.specs.State.{valid_panel}
 use Rattle.controller.specs.Run.{log_of}
-use Rattle.contents.specs.declared.ask.Asked.{Asked}
-use Rattle.contents.specs.declared.ask.Asked.TheVariants.{Body, Refused}
+use Rattle.contents.specs.Replies.{Asked, Body, Refused}
 use Rattle.contents.specs.Asked.{asked_of}
 use Rattle.book.specs.Operation.{Operation}
 use Rattle.book.specs.Screen.{screen, screen_in, screen_of}
-use Rattle.writer.specs.declared.written.Written.{Written}
 use Rattle.writer.specs.Stream.{operation_pairs}
-use Rattle.writer.specs.Written.{Wrote, wrote_all, wrote}
-use Rattle.picture.specs.declared.cursor.Laid.{Laid}
-use Rattle.picture.specs.declared.cursor.Laid.TheVariants.{Nowhere, Over}
+use Rattle.writer.specs.Stream.{operation_pairs}
+use Rattle.writer.specs.Written.{Written, Wrote, wrote_all, wrote}
+use Rattle.picture.specs.Laid.{Laid, Nowhere, Over}
 use Rattle.picture.specs.Picture.{Picture, picture_of}
 use Rattle.difference.specs.Short.{end_pairs, short_over, short_stream, change_count, end_count, count_over, short_count}
 use Rattle.difference.specs.Change.{write_short, change_screens, unless_asked, change_of}

@@ -1,16 +1,19 @@
 -- Planes compared byte by byte: how many differ, and the pairs that are still to be put.
 use mathlib.Core.Path.{◌≡◌, refl, ap, ◌∙◌}
-use mathlib.Core.Bool.{Bool, true, false, cond}
+use mathlib.Core.Bool.{Bool, true, false, cond, not}
 use mathlib.Core.List.{List, [], ◌∷◌, ◌++◌}
 use Prim.Native.Nat.{ℕ, suc, ◌+◌, ◌*◌, ◌≤◌, ◌<◌}
 use native.Mathlib.Omega.{arith}
 use lib.Dec.{eqb}
+use Rattle.std.specs.List.{count_by, zip}
+use Rattle.std.proofs.lemmas.List.Sums.{sum_by-cons}
 use lib.ListN.{length, get_or, drop, length-append, drop_of_length-le}
 use lib.Seq.{drop-cons}
 use borrow.Author.Tests.{eq-eqb, ne_eqb}
 use Rattle.controller.specs.Access.{Pair}
 use Rattle.writer.specs.Stream.{point_to}
-use Rattle.writer.specs.Put.{PairsPut, RoomFor}
+use Rattle.writer.specs.declared.put.Stream.{Stream}
+use Rattle.writer.specs.Put.{Puts, RoomFor}
 use Rattle.writer.proofs.Puts.{Putting, putting, put_on, put-over}
 use Rattle.difference.specs.Short.{change_at, changes_from, change_count}
 use Rattle.difference.specs.Differing.{Changing}
@@ -30,6 +33,17 @@ changes-length at (x ∷ xs) (y ∷ ys) = go (eqb x y) (changes-length (suc at) 
     go true h = omega arith
     go false h = rw length-append (omega (arith, change-length at y))
 
+-- counted as pairs of bytes
+pub counted : (xs ys : List ℕ) → count_by (λ (q : ℕ × ℕ). not (eqb q.0 q.1)) (zip xs ys) ≡ change_count xs ys
+unfolding change_count
+counted [] ys = refl
+counted (x ∷ xs) [] = refl
+counted (x ∷ xs) (y ∷ ys) = sum_by-cons (λ (q : ℕ × ℕ). cond (not (eqb q.0 q.1)) 1 0) (x, y) (zip xs ys) ∙ go (eqb x y) (counted xs ys)
+  where
+    go : (t : Bool) {m n : ℕ} → m ≡ n → cond (not t) 1 0 + m ≡ cond t 0 1 + n
+    go true h = omega arith
+    go false h = omega arith
+
 pub count-few : (xs ys : List ℕ) → change_count xs ys ≤ length ys
 unfolding change_count
 count-few [] ys = omega arith
@@ -40,101 +54,50 @@ count-few (x ∷ xs) (y ∷ ys) = go (eqb x y) (count-few xs ys)
     go true h = omega arith
     go false h = omega arith
 
--- before byte i
-pub record Counting (old new : List ℕ) (count i : ℕ) : Type 0 where
-  pub upto : i ≤ length new
-  pub few : count ≤ i
-  pub left : count + change_count (drop i old) (drop i new) ≡ change_count old new
+module _ (old new : List ℕ) (same : length old ≡ length new) (i : ℕ) (h : i < length new) where
+  old-next : drop i old ≡ get_or old i 0 ∷ drop (i + 1) old
+  old-next = let e : suc i ≡ i + 1 = omega arith in drop-cons old i 0 (omega arith) ∙ ap (λ (n : ℕ). get_or old i 0 ∷ drop n old) e
 
-module _ (old new : List ℕ) (same : length old ≡ length new) where
-  pub counting : Counting old new 0 0
-  counting =
-      let e : (n : ℕ) → 0 + n ≡ n = λ n. omega arith in record { upto = omega arith; few = omega arith; left = e (change_count old new) }
+  new-next : drop i new ≡ get_or new i 0 ∷ drop (i + 1) new
+  new-next = let e : suc i ≡ i + 1 = omega arith in drop-cons new i 0 h ∙ ap (λ (n : ℕ). get_or new i 0 ∷ drop n new) e
 
-  module _ (i : ℕ) (h : i < length new) where
-    old-next : drop i old ≡ get_or old i 0 ∷ drop (i + 1) old
-    old-next = let e : suc i ≡ i + 1 = omega arith in drop-cons old i 0 (omega arith) ∙ ap (λ (n : ℕ). get_or old i 0 ∷ drop n old) e
+  changes-next : (at : ℕ) (t : Bool) → eqb (get_or old i 0) (get_or new i 0) ≡ t
+      → changes_from at (drop i old) (drop i new) ≡ cond t [] (change_at at (get_or new i 0)) ++ changes_from (suc at) (drop (i + 1) old) (drop (i + 1) new)
+  unfolding changes_from
+  changes-next at t e =
+      (λ q. changes_from at (old-next q) (new-next q))
+      ∙ ap (λ (s : Bool). cond s [] (change_at at (get_or new i 0)) ++ changes_from (suc at) (drop (i + 1) old) (drop (i + 1) new)) e
 
-    new-next : drop i new ≡ get_or new i 0 ∷ drop (i + 1) new
-    new-next = let e : suc i ≡ i + 1 = omega arith in drop-cons new i 0 h ∙ ap (λ (n : ℕ). get_or new i 0 ∷ drop n new) e
+-- with the changes from byte i on still to be put
+pub record Differs (a : Stream) (home : ℕ) (old new : List ℕ) (b : Stream) (i : ℕ) : Type 0 where
+  pub puts : Putting a (changes_from home old new) b (changes_from (home + i) (drop i old) (drop i new))
 
-    count_next : (t : Bool) → eqb (get_or old i 0) (get_or new i 0) ≡ t
-        → change_count (drop i old) (drop i new) ≡ cond t 0 1 + change_count (drop (i + 1) old) (drop (i + 1) new)
-    unfolding change_count
-    count_next t e =
-        (λ q. change_count (old-next q) (new-next q)) ∙ ap (λ (s : Bool). cond s 0 1 + change_count (drop (i + 1) old) (drop (i + 1) new)) e
-
-    changes-next : (at : ℕ) (t : Bool) → eqb (get_or old i 0) (get_or new i 0) ≡ t
-        → changes_from at (drop i old) (drop i new) ≡ cond t [] (change_at at (get_or new i 0)) ++ changes_from (suc at) (drop (i + 1) old) (drop (i + 1) new)
-    unfolding changes_from
-    changes-next at t e =
-        (λ q. changes_from at (old-next q) (new-next q))
-        ∙ ap (λ (s : Bool). cond s [] (change_at at (get_or new i 0)) ++ changes_from (suc at) (drop (i + 1) old) (drop (i + 1) new)) e
-
-    module _ {count : ℕ} (k : Counting old new count i) where
-      pub counting-other : (get_or old i 0 ≡ get_or new i 0 → ⊥) → Counting old new (count + 1) (i + 1)
-      counting-other n =
-          record {
-            upto = omega arith;
-            few = omega (arith, k.few);
-            left = omega (arith, k.left, count_next false (ne_eqb (get_or old i 0) (get_or new i 0) n));
-          }
-
-      pub counting-same : get_or old i 0 ≡ get_or new i 0 → Counting old new count (i + 1)
-      counting-same e =
-          record {
-            upto = omega arith;
-            few = omega (arith, k.few);
-            left = omega (arith, k.left, count_next true (eq-eqb (get_or old i 0) (get_or new i 0) e));
-          }
-
-  pub counting-over : {count i : ℕ} → Counting old new count i → length new ≤ i → count ≡ change_count old new
-  unfolding change_count
-  counting-over {count} {i} k h =
-      let e : change_count (drop i old) (drop i new) ≡ 0 = ap (λ (l : List ℕ). change_count l (drop i new)) (drop_of_length-le old {i = i} (omega arith)) in
-      omega (arith, k.left)
-
--- with the changes from byte i on still to be put at w
-pub record Differs (a : List ℕ) (at home : ℕ) (old new b : List ℕ) (w i : ℕ) : Type 0 where
-  pub upto : i ≤ length new
-  pub puts : Putting a at (changes_from home old new) b w (changes_from (home + i) (drop i old) (drop i new))
-
-pub differs : (a : List ℕ) (at home : ℕ) (old new : List ℕ) → Differs a at home old new a at 0
-differs a at home old new =
+pub differs : (a : Stream) (home : ℕ) (old new : List ℕ) → Differs a home old new a 0
+differs a home old new =
     let e : home + 0 ≡ home = omega arith in
-    record {
-      upto = omega arith;
-      puts = rw (ap (λ (n : ℕ). changes_from n old new) e) (putting a at (changes_from home old new));
-    }
+    record { puts = rw (ap (λ (n : ℕ). changes_from n old new) e) (putting a (changes_from home old new)) }
 
-module _ {a : List ℕ} {at home : ℕ} {old new b : List ℕ} {w i : ℕ} (r : Changing home at old new a) (k : Differs a at home old new b w i) where
-  pub differs-kept : length b ≡ length a
-  differs-kept = k.puts.kept
-
+module _ {a : Stream} {home : ℕ} {old new : List ℕ} {b : Stream} {i : ℕ} (r : Changing home old new a) (k : Differs a home old new b i) where
   module _ (h : i < length new) where
-    pub differs-low : home + i < 65536
-    differs-low = omega (arith, r.low)
-
     later : (t : Bool) → eqb (get_or old i 0) (get_or new i 0) ≡ t
-        → Putting a at (changes_from home old new) b w (cond t [] (change_at (home + i) (get_or new i 0)) ++ changes_from (home + (i + 1)) (drop (i + 1) old) (drop (i + 1) new))
+        → Putting a (changes_from home old new) b (cond t [] (change_at (home + i) (get_or new i 0)) ++ changes_from (home + (i + 1)) (drop (i + 1) old) (drop (i + 1) new))
     later t e =
         let s : suc (home + i) ≡ home + (i + 1) = omega arith in
         rw (changes-next old new r.same i h (home + i) t e, s) at k.puts
 
-    pub differs-room : (get_or old i 0 ≡ get_or new i 0 → ⊥) → RoomFor 5 w b
+    pub differs-room : (get_or old i 0 ≡ get_or new i 0 → ⊥) → RoomFor 5 b
     differs-room n =
         let f : eqb (get_or old i 0) (get_or new i 0) ≡ false = ne_eqb (get_or old i 0) (get_or new i 0) n in
         let rest : List Pair = changes_from (home + (i + 1)) (drop (i + 1) old) (drop (i + 1) new) in
-        omega (arith, (later false f).places, differs-kept, r.fits, changes-length home old new, length-append (change_at (home + i) (get_or new i 0)) rest, change-length (home + i) (get_or new i 0))
+        omega (arith, (later false f).places, k.puts.kept, r.fits, changes-length home old new, length-append (change_at (home + i) (get_or new i 0)) rest, change-length (home + i) (get_or new i 0))
 
-    pub differs-other : (get_or old i 0 ≡ get_or new i 0 → ⊥) → {c : List ℕ} {e : ℕ} → PairsPut b w (change_at (home + i) (get_or new i 0)) c e
-        → Differs a at home old new c e (i + 1)
-    differs-other n x = record { upto = omega arith; puts = put_on (later false (ne_eqb (get_or old i 0) (get_or new i 0) n)) x }
+    pub differs-other : (get_or old i 0 ≡ get_or new i 0 → ⊥) → {c : Stream} → Puts b (change_at (home + i) (get_or new i 0)) c → Differs a home old new c (i + 1)
+    differs-other n x = record { puts = put_on (later false (ne_eqb (get_or old i 0) (get_or new i 0) n)) x }
 
-    pub differs-same : get_or old i 0 ≡ get_or new i 0 → Differs a at home old new b w (i + 1)
-    differs-same e = record { upto = omega arith; puts = later true (eq-eqb (get_or old i 0) (get_or new i 0) e) }
+    pub differs-same : get_or old i 0 ≡ get_or new i 0 → Differs a home old new b (i + 1)
+    differs-same e = record { puts = later true (eq-eqb (get_or old i 0) (get_or new i 0) e) }
 
-  pub differs-over : length new ≤ i → PairsPut a at (changes_from home old new) b w
+  pub differs-over : length new ≤ i → Puts a (changes_from home old new) b
   unfolding changes_from
   differs-over h =
       let e : changes_from (home + i) (drop i old) (drop i new) ≡ [] = ap (λ (l : List ℕ). changes_from (home + i) l (drop i new)) (drop_of_length-le old {i = i} (omega (arith, r.same))) in

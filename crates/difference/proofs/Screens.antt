@@ -11,14 +11,16 @@ use lib.Seq.{length-take-le}
 use borrow.Author.Tests.{eq-eqb}
 use Rattle.ground.proofs.Tests.{both}
 use Rattle.state.specs.declared.panel.Panel.{Panel}
-use Rattle.state.specs.declared.reply.Reply.{Reply}
 use Rattle.state.specs.State.{valid_panel}
 use Rattle.state.specs.Sizes.{cell_count, valid_size}
 use Rattle.state.proofs.Sizes.{is-size}
-use Rattle.contents.specs.declared.ask.Asked.{Asked}
-use Rattle.contents.specs.declared.ask.Asked.TheVariants.{Body, Refused}
+use Rattle.contents.specs.Replies.{Asked, Body, Refused}
+use Rattle.std.specs.Prelude.{Ok, Err}
+use Rattle.state.specs.declared.refusal.Refused.{Refused as Turned}
+use Rattle.state.specs.Refusals.{number_of}
+use Rattle.state.proofs.RefusalNumbers.{not_zero}
+use Rattle.contents.specs.Replies.{asked}
 use Rattle.contents.specs.Asked.{asked_of}
-use Rattle.contents.specs.Numbers.{asked_number, asked_place}
 use Rattle.contents.proofs.Asking.{asked-number}
 use Rattle.book.specs.declared.operation.Placed.{Placed}
 use Rattle.book.specs.declared.operation.Placed.TheVariants.{Text, Rectangle, Dot, Glyph, Cursor, Combine}
@@ -26,14 +28,15 @@ use Rattle.book.specs.Operation.{Operation, operation_of}
 use Rattle.book.specs.Range.{InRange}
 use Rattle.book.specs.Screen.{Screen, screen, refused, screen_in, screen_of}
 use Rattle.book.proofs.Walking.{walk-all, walk-number}
-use Rattle.writer.specs.Written.{Wrote, wrote}
-use Rattle.picture.specs.declared.plan.Planned.{Planned}
+use Rattle.writer.specs.Written.{Wrote, wrote, wrote_all, written_reply}
 use Rattle.picture.specs.Picture.{Picture, blank, applied, applied_all, picture_of}
-use Rattle.picture.specs.Planned.{Plan, planned_all, refused_plan, plan_screen, areas_fit, planes_of}
-use Rattle.picture.specs.Ready.{Sized}
+use Rattle.picture.specs.Planned.{Planned, Plan, styled, planned_all, refused_plan, plan_screen, areas_fit, planes_of}
+use Rattle.picture.specs.declared.style.Style.{Style}
+use Rattle.picture.specs.Ready.{Sized, picture_with}
 use Rattle.picture.proofs.Bodies.{all-sized, blank-sized}
 use Rattle.difference.specs.Change.{write_short, change_to, change_screens, unless_asked, change_of}
-use Rattle.difference.specs.Differing.{LaidRange, picture_from, Between, PlanesFor}
+use Rattle.difference.specs.declared.changes.Planes.{Planes}
+use Rattle.difference.specs.Differing.{LaidRange, Between, PlanesFor}
 
 -- part of a plane of zeros
 pub cut : (n m : ℕ) → n ≤ m → length {A = ℕ} (take n (replicate m 0)) ≡ n
@@ -88,84 +91,84 @@ module _ (p : Panel) where
           ⊎_elim (λ i. let y : ⊥ = omega arith in y) (λ i. let y : ⊥ = omega arith in y) (asked-number book key d)
 
 -- a screen whose planes were answered
-pub record PlannedScreen (p : Panel) (book : List ℕ) (key : ℕ) (r : Planned) (g t h : List ℕ) : Type 0 where
+pub record PlannedScreen (p : Panel) (book : List ℕ) (key : ℕ) (r : Style) (g t h : List ℕ) : Type 0 where
   pub os : List Operation
   pub whole : screen_of p book key ≡ screen os
-  pub is : picture_from g t h r.combination r.cursor ≡ picture_of p os
+  pub is : picture_with g t h r ≡ picture_of p os
 
-module _ (p : Panel) (book : List ℕ) (key : ℕ) {g t h : List ℕ} (k : PlanesFor p g t h) {r : Planned} {g₁ t₁ h₁ : List ℕ}
-    (x : planned_all r g₁ t₁ h₁ ≡ planes_of p book key g t h) where
+module _ (p : Panel) (book : List ℕ) (key : ℕ) {g t h : List ℕ} (k : PlanesFor p g t h) where
   fitting : areas_fit p g t h ≡ true
   fitting =
       both (both (eq-eqb (length g) (8 * p.lines * p.columns) k.sized.graphic) (eq-eqb (length t) (p.lines * p.columns) k.sized.codes))
       (eq-eqb (length h) 1024 k.sized.glyphs)
 
-  planned-is : planned_all r g₁ t₁ h₁ ≡ plan_screen p g t h (screen_of p book key)
-  unfolding planes_of
-  planned-is =
-      x
-      ∙ ap (λ (v : Bool). cond v (cond (areas_fit p g t h) (plan_screen p g t h (screen_of p book key)) (planned_all (refused_plan 2 0) g t h)) (planned_all (refused_plan 1 0) g t h)) k.valid
-      ∙ ap (λ (v : Bool). cond v (plan_screen p g t h (screen_of p book key)) (planned_all (refused_plan 2 0) g t h)) fitting
+  module _ {g₁ t₁ h₁ : List ℕ} where
+    planned-is : {r : Planned} → planned_all r g₁ t₁ h₁ ≡ planes_of p book key g t h → planned_all r g₁ t₁ h₁ ≡ plan_screen p g t h (screen_of p book key)
+    unfolding planes_of
+    planned-is x =
+        x
+        ∙ ap (λ (v : Bool). cond v (cond (areas_fit p g t h) (plan_screen p g t h (screen_of p book key)) (planned_all (refused_plan 2 0) g t h)) (planned_all (refused_plan 1 0) g t h)) k.valid
+        ∙ ap (λ (v : Bool). cond v (plan_screen p g t h (screen_of p book key)) (planned_all (refused_plan 2 0) g t h)) fitting
 
-  pub planned-screen : r.number ≡ 0 → PlannedScreen p book key r g₁ t₁ h₁
-  planned-screen z = go (screen_of p book key) refl planned-is
-    where
-      go : (s : Screen) → screen_of p book key ≡ s → planned_all r g₁ t₁ h₁ ≡ plan_screen p g t h s → PlannedScreen p book key r g₁ t₁ h₁
-      go (screen os) e d =
-          record {
-            os = os;
-            whole = e;
-            is = ap (λ (y : Plan). picture_from y.graphic y.codes y.glyphs y.planned.combination y.planned.cursor) d;
-          }
-      go (refused n place) e d = absurd (refused-number p book key e (sym (ap (λ (y : Plan). y.planned.number) d) ∙ z))
+    -- refused with its number and place
+    planned-refused : (e : Turned) → planned_all (styled (Err e)) g₁ t₁ h₁ ≡ planes_of p book key g t h → screen_of p book key ≡ refused (number_of e.refusal) e.place
+    planned-refused e x = go (screen_of p book key) (planned-is x)
+      where
+        go : (s : Screen) → planned_all (styled (Err e)) g₁ t₁ h₁ ≡ plan_screen p g t h s → s ≡ refused (number_of e.refusal) e.place
+        go (screen os) d = absurd (not_zero e.refusal (ap (λ (y : Plan). y.planned.number) d))
+        go (refused n place) d = sym (ap (λ (y : Plan). refused y.planned.number y.planned.place) d)
 
-  pub planned-refused : (r.number ≡ 0 → ⊥) → screen_of p book key ≡ refused r.number r.place
-  planned-refused nz = go (screen_of p book key) planned-is
-    where
-      go : (s : Screen) → planned_all r g₁ t₁ h₁ ≡ plan_screen p g t h s → s ≡ refused r.number r.place
-      go (screen os) d = absurd (nz (ap (λ (y : Plan). y.planned.number) d))
-      go (refused n place) d = sym (ap (λ (y : Plan). refused y.planned.number y.planned.place) d)
+    pub between-err : (e : Turned) → planned_all (styled (Err e)) g₁ t₁ h₁ ≡ planes_of p book key g t h → (room : List ℕ) (a : Planes)
+        → wrote_all (written_reply (Err e)) room ≡ change_to p room a.graphic.now a.codes.now a.glyphs.now (screen_of p book key)
+    between-err e x room a = ap (change_to p room a.graphic.now a.codes.now a.glyphs.now) (sym (planned-refused e x))
 
-  planned-sized : r.number ≡ 0 → Sized p g₁ t₁ h₁
-  unfolding picture_of
-  planned-sized z =
-      let s = planned-screen z in
-      subst (λ (a : Picture). Sized p a.graphic a.codes a.glyphs) (sym s.is) (all-sized p s.os (blank p) (blank-sized p))
+    pub from-err : (e : Turned) → planned_all (styled (Err e)) g₁ t₁ h₁ ≡ planes_of p book key g t h → (room : List ℕ) (other : Screen)
+        → wrote_all (written_reply (Err e)) room ≡ change_screens p room (screen_of p book key) other
+    from-err e x room other = ap (λ (s : Screen). change_screens p room s other) (sym (planned-refused e x))
 
-  -- as screen b
-  module _ (room : List ℕ) {dots letters shapes : List ℕ} (o : PlanesFor p dots letters shapes) where
-    pub between-refused : (r.number ≡ 0 → ⊥) → wrote r.number r.place 0 room ≡ change_to p room dots letters shapes (screen_of p book key)
-    between-refused nz = ap (change_to p room dots letters shapes) (sym (planned-refused nz))
+    module _ (r : Style) (x : planned_all (styled (Ok r)) g₁ t₁ h₁ ≡ planes_of p book key g t h) where
+      pub planned-screen : PlannedScreen p book key r g₁ t₁ h₁
+      planned-screen = go (screen_of p book key) refl (planned-is x)
+        where
+          go : (s : Screen) → screen_of p book key ≡ s → planned_all (styled (Ok r)) g₁ t₁ h₁ ≡ plan_screen p g t h s → PlannedScreen p book key r g₁ t₁ h₁
+          go (screen os) e d =
+              record {
+                os = os;
+                whole = e;
+                is = ap (λ (y : Plan). record { graphic = y.graphic; codes = y.codes; glyphs = y.glyphs; combination = y.planned.combination; cursor = y.planned.cursor }) d;
+              }
+          go (refused n place) e d = absurd (refused-number p book key e (sym (ap (λ (y : Plan). y.planned.number) d)))
 
-    module _ (z : r.number ≡ 0) where
-      pub between-ready : Between p dots letters shapes (picture_from g₁ t₁ h₁ r.combination r.cursor)
-      between-ready =
-          let s = planned-screen z in
+      planned-sized : Sized p g₁ t₁ h₁
+      unfolding picture_of
+      planned-sized =
+          let s = planned-screen in
+          subst (λ (a : Picture). Sized p a.graphic a.codes a.glyphs) (sym s.is) (all-sized p s.os (blank p) (blank-sized p))
+
+      -- as screen b
+      pub between-ready : (a : Planes) → PlanesFor p a.graphic.now a.codes.now a.glyphs.now → Between p a (picture_with g₁ t₁ h₁ r)
+      between-ready a o =
+          let s = planned-screen in
           record {
             valid = k.valid;
             old = o.sized;
-            new = planned-sized z;
-            range = subst (λ (a : Picture). LaidRange p a.cursor) (sym s.is) (laid-range p book key s.whole);
+            new = planned-sized;
+            range = subst (λ (q : Picture). LaidRange p q.cursor) (sym s.is) (laid-range p book key s.whole);
           }
 
-      pub between-written : {w : Wrote} → w ≡ write_short p dots letters shapes (picture_from g₁ t₁ h₁ r.combination r.cursor) room
-          → w ≡ change_to p room dots letters shapes (screen_of p book key)
-      between-written e =
-          let s = planned-screen z in
-          e ∙ ap (λ (a : Picture). write_short p dots letters shapes a room) s.is ∙ ap (change_to p room dots letters shapes) (sym s.whole)
+      pub between-written : (room : List ℕ) (a : Planes) {w : Wrote} → w ≡ write_short p a.graphic.now a.codes.now a.glyphs.now (picture_with g₁ t₁ h₁ r) room
+          → w ≡ change_to p room a.graphic.now a.codes.now a.glyphs.now (screen_of p book key)
+      between-written room a e =
+          let s = planned-screen in
+          e ∙ ap (λ (q : Picture). write_short p a.graphic.now a.codes.now a.glyphs.now q room) s.is ∙ ap (change_to p room a.graphic.now a.codes.now a.glyphs.now) (sym s.whole)
 
-  -- as screen a
-  module _ (room : List ℕ) (other : Screen) where
-    pub from-refused : (r.number ≡ 0 → ⊥) → wrote r.number r.place 0 room ≡ change_screens p room (screen_of p book key) other
-    from-refused nz = ap (λ (s : Screen). change_screens p room s other) (sym (planned-refused nz))
-
-    module _ (z : r.number ≡ 0) where
+      -- as screen a
       pub from-ready : PlanesFor p g₁ t₁ h₁
-      from-ready = record { valid = k.valid; sized = planned-sized z }
+      from-ready = record { valid = k.valid; sized = planned-sized }
 
-      pub from-written : {w : Wrote} → w ≡ change_to p room g₁ t₁ h₁ other → w ≡ change_screens p room (screen_of p book key) other
-      from-written e =
-          let s = planned-screen z in
+      pub from-written : (room : List ℕ) (other : Screen) {w : Wrote} → w ≡ change_to p room g₁ t₁ h₁ other → w ≡ change_screens p room (screen_of p book key) other
+      from-written room other e =
+          let s = planned-screen in
           e ∙ ap (λ (a : Picture). change_to p room a.graphic a.codes a.glyphs other) s.is
           ∙ ap (λ (y : Screen). change_screens p room y other) (sym s.whole)
 
@@ -185,33 +188,15 @@ module _ (p : Panel) (book : List ℕ) (a b : ℕ) (room : List ℕ) {v : Bool} 
     pub change-valid : valid_panel p ≡ true
     change-valid = sym i ∙ e
 
-    -- by what was asked for
-    unfound : (x : Asked) (on : Wrote) → (asked_number x ≡ 0 → ⊥) → wrote (asked_number x) (asked_place x) 0 room ≡ unless_asked room x on
-    unfound (Body start end) on nz = absurd (nz refl)
-    unfound (Refused n place) on nz = refl
+    pub change-a : (d : Turned) → asked (Err d) ≡ asked_of book a → wrote_all (written_reply (Err d)) room ≡ change_of p book a b room
+    change-a d j = ap (λ (x : Asked). unless_asked room x (unless_asked room (asked_of book b) screens)) j ∙ by-panel true e
 
-    found : (key : ℕ) (x : Asked) (on : Wrote) → asked_of book key ≡ x → asked_number x ≡ 0 → on ≡ unless_asked room x on
-    found key (Body start end) on d z = refl
-    found key (Refused n place) on d z = absurd (⊎_elim (λ j. let y : ⊥ = omega arith in y) (λ j. let y : ⊥ = omega arith in y) (asked-number book key d))
+    module _ {m n : ℕ} (j : Body m n ≡ asked_of book a) where
+      past-a : unless_asked room (asked_of book b) screens ≡ change_of p book a b room
+      past-a = ap (λ (x : Asked). unless_asked room x (unless_asked room (asked_of book b) screens)) j ∙ by-panel true e
 
-    module _ {r : Reply} (j : r ≡ record { number = asked_number (asked_of book a); place = asked_place (asked_of book a) }) where
-      pub change-a : (r.number ≡ 0 → ⊥) → wrote r.number r.place 0 room ≡ change_of p book a b room
-      change-a nz =
-          ap (λ (y : Reply). wrote y.number y.place 0 room) j
-          ∙ unfound (asked_of book a) (unless_asked room (asked_of book b) screens) (λ z. nz (ap (λ (y : Reply). y.number) j ∙ z))
-          ∙ by-panel true e
+      pub change-b : (d : Turned) → asked (Err d) ≡ asked_of book b → wrote_all (written_reply (Err d)) room ≡ change_of p book a b room
+      change-b d l = ap (λ (x : Asked). unless_asked room x screens) l ∙ past-a
 
-      module _ (z : r.number ≡ 0) where
-        past-a : unless_asked room (asked_of book b) screens ≡ change_of p book a b room
-        past-a =
-            found a (asked_of book a) (unless_asked room (asked_of book b) screens) refl (sym (ap (λ (y : Reply). y.number) j) ∙ z)
-            ∙ by-panel true e
-
-        module _ {s : Reply} (l : s ≡ record { number = asked_number (asked_of book b); place = asked_place (asked_of book b) }) where
-          pub change-b : (s.number ≡ 0 → ⊥) → wrote s.number s.place 0 room ≡ change_of p book a b room
-          change-b nz =
-              ap (λ (y : Reply). wrote y.number y.place 0 room) l
-              ∙ unfound (asked_of book b) screens (λ q. nz (ap (λ (y : Reply). y.number) l ∙ q)) ∙ past-a
-
-          pub change-both : s.number ≡ 0 → {w : Wrote} → w ≡ screens → w ≡ change_of p book a b room
-          change-both q d = d ∙ found b (asked_of book b) screens refl (sym (ap (λ (y : Reply). y.number) l) ∙ q) ∙ past-a
+      pub change-both : {m n : ℕ} → Body m n ≡ asked_of book b → {w : Wrote} → w ≡ screens → w ≡ change_of p book a b room
+      change-both l d = d ∙ ap (λ (x : Asked). unless_asked room x screens) l ∙ past-a

@@ -4,8 +4,7 @@ use Rattle.std.proofs.lemmas.List.Edits.{sets}
 use Rattle.state.specs.declared.panel.Panel.{Panel}
 use Rattle.state.specs.State.{valid_panel}
 use Rattle.controller.specs.Run.{log_of}
-use Rattle.contents.specs.declared.ask.Asked.{Asked}
-use Rattle.contents.specs.declared.ask.Asked.TheVariants.{Body, Refused}
+use Rattle.contents.specs.Replies.{Asked, Body, Refused}
 use Rattle.contents.specs.Asked.{asked_of}
 use Rattle.book.specs.Screen.{Screen, screen, refused, screen_of}
 use Rattle.writer.specs.Written.{Wrote, wrote}

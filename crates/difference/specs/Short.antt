@@ -3,8 +3,7 @@ use Rattle.std.specs.Prelude.{ℕ, suc, ◌+◌, ◌*◌, cond, List, [], ◌∷
 use Rattle.state.specs.declared.panel.Panel.{Panel}
 use Rattle.book.specs.Operation.{cursor}
 use Rattle.writer.specs.Stream.{Pair, datum, code, graphic_home, text_home, glyph_home, point_to, combination_code, operation_pairs}
-use Rattle.picture.specs.declared.cursor.Laid.{Laid}
-use Rattle.picture.specs.declared.cursor.Laid.TheVariants.{Nowhere, Over}
+use Rattle.picture.specs.Laid.{Laid, Nowhere, Over}
 use Rattle.picture.specs.Picture.{Picture}
 
 -- pointer set, the new byte, C4H

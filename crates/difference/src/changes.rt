@@ -1,127 +1,91 @@
 // Bytes of two planes that differ.
-ghost use Rattle.std.specs.Prelude.{◌≡◌, length};
-ghost use Rattle.writer.specs.Put.{PairsPut};
-ghost use Rattle.writer.specs.Written.{wrote_all};
-ghost use Rattle.difference.specs.Short.{changes_from, short_over, change_count, end_count};
+ghost use Rattle.std.specs.Prelude.{◌≡◌, ◌==◌, not, count_by, zip, OnErr};
+ghost use Rattle.writer.specs.Put.{Puts};
+ghost use Rattle.writer.specs.Written.{written_reply, wrote_all};
+ghost use Rattle.picture.specs.Laid.{laid};
+ghost use Rattle.difference.specs.Short.{changes_from, short_over, end_count};
 ghost use Rattle.difference.specs.Change.{write_short};
 ghost use Rattle.difference.specs.Differing.{Changing, picture_from, Between, BetweenRoomy};
 
 use super::put::{put_change, put_end};
 use picture::cursor::Laid;
+use picture::style::Style;
 use state::panel::Panel;
-use state::registers::Combination;
+use state::refusal::{Refusal, Refused};
 use writer::homes::{Homes, text_home};
-use writer::written::Written;
+use writer::put::Stream;
+
+/// The planes of a picture: 8·C·L graphic bytes, C·L text codes and 1,024 glyph bytes.
+#[derive(Clone, Copy)]
+pub(crate) struct Planes<'a> {
+    pub graphic: &'a [u8],
+    pub codes: &'a [u8],
+    pub glyphs: &'a [u8],
+}
 
 // How many differ.
 fn count_changes(old: &[u8], new: &[u8]) -> usize
-    requires { length old.now ≡ length new.now }
-    ensures { result ≡ change_count old.now new.now }
+    ensures { result ≡ count_by (λ q. not (q.0 == q.1)) (zip old.now new.now) }
 {
-    let mut count: usize = 0;
-    let mut i: usize = 0;
-    while i < new.len() {
-        let j = i;
-        i += 1;
-        if old[j] != new[j] {
-            count += 1;
-        }
-    }
-    count
+    old.iter().zip(new).filter(|(a, b)| **a != **b).count()
 }
 
 // Those that differ are put, ascending from a home on.
-fn put_changes(room: &mut [u8], at: usize, home: usize, old: &[u8], new: &[u8]) -> usize
-    requires { Changing home at old.now new.now room.old }
-    ensures { PairsPut room.old at (changes_from home old.now new.now) room.new result }
+fn put_changes(stream: &mut Stream, home: u16, old: &[u8], new: &[u8])
+    requires { Changing home old.now new.now stream.old }
+    ensures { Puts stream.old (changes_from home old.now new.now) stream.new }
 {
-    let mut w = at;
-    let mut i: usize = 0;
-    while i < new.len() {
-        let k = i;
-        i += 1;
-        if old[k] != new[k] {
-            w = put_change(room, w, home + k, new[k]);
+    for (i, byte) in new.iter().enumerate() {
+        if old[i] != *byte {
+            put_change(stream, home + i as u16, *byte);
         }
     }
-    w
 }
 
 // The pairs of the mode and of the end.
-fn end_count(laid: Laid) -> usize
-    ensures { result ≡ end_count laid }
+fn end_count(cursor: Option<Laid>) -> usize
+    ensures { result ≡ end_count (laid cursor) }
 {
-    match laid {
-        Laid::Nowhere => 2,
-        Laid::Over(_, _) => 6,
+    match cursor {
+        None => 2,
+        Some(_) => 6,
     }
 }
 
-// All that differs between A's dots, letters and shapes and the planes of B, then the mode and the end.
-fn put_short(
-    room: &mut [u8],
-    panel: Panel,
-    dots: &[u8],
-    letters: &[u8],
-    shapes: &[u8],
-    graphic: &[u8],
-    codes: &[u8],
-    glyphs: &[u8],
-    combination: Combination,
-    laid: Laid,
-) -> usize
-    requires { BetweenRoomy panel dots.now letters.now shapes.now (picture_from graphic.now codes.now glyphs.now combination laid) room.old }
-    ensures { PairsPut room.old 0 (short_over panel dots.now letters.now shapes.now (picture_from graphic.now codes.now glyphs.now combination laid)) room.new result }
+// All that differs between A's planes and those of B, then B's mode and end.
+fn put_short(stream: &mut Stream, panel: Panel, a: Planes, b: Planes, style: Style)
+    requires { BetweenRoomy panel a (picture_from b style) stream.old }
+    ensures { Puts stream.old (short_over panel a.entry.graphic.now a.entry.codes.now a.entry.glyphs.now (picture_from b.entry style)) stream.new }
 {
-    let home = text_home(panel) as usize;
-    let a = put_changes(room, 0, Homes::GRAPHIC as usize, dots, graphic);
-    let b = put_changes(room, a, home, letters, codes);
-    let c = put_changes(room, b, Homes::GLYPHS as usize, shapes, glyphs);
-    put_end(room, c, panel, combination, laid)
+    put_changes(stream, Homes::GRAPHIC, a.graphic, b.graphic);
+    put_changes(stream, text_home(panel), a.codes, b.codes);
+    put_changes(stream, Homes::GLYPHS, a.glyphs, b.glyphs);
+    put_end(stream, panel, style);
 }
 
-// The short stream, or 12 with the pairs needed.
+// The short stream, and its pairs; `NoRoomForStream` with the pairs needed.
 pub(crate) fn write_short(
     room: &mut [u8],
     panel: Panel,
-    dots: &[u8],
-    letters: &[u8],
-    shapes: &[u8],
-    graphic: &[u8],
-    codes: &[u8],
-    glyphs: &[u8],
-    combination: Combination,
-    laid: Laid,
-) -> Written
-    requires { Between panel dots.now letters.now shapes.now (picture_from graphic.now codes.now glyphs.now combination laid) }
-    ensures { wrote_all result room.new ≡ write_short panel dots.now letters.now shapes.now (picture_from graphic.now codes.now glyphs.now combination laid) room.old }
+    a: Planes,
+    b: Planes,
+    style: Style,
+) -> Result<usize, Refused>
+    requires { Between panel a (picture_from b style) }
+    ensures value { wrote_all (written_reply result) room.new ≡ write_short panel a.entry.graphic.now a.entry.codes.now a.entry.glyphs.now (picture_from b.entry style) room.old }
+    ensures refused { OnErr result (room.new ≡ room.old) }
 {
-    let a = count_changes(dots, graphic);
-    let b = count_changes(letters, codes);
-    let c = count_changes(shapes, glyphs);
-    let pairs = 5 * (a + b + c) + end_count(laid);
+    let dots = count_changes(a.graphic, b.graphic);
+    let letters = count_changes(a.codes, b.codes);
+    let shapes = count_changes(a.glyphs, b.glyphs);
+    let pairs = 5 * (dots + letters + shapes) + end_count(style.cursor);
     if room.len() < 2 * pairs {
-        return Written {
-            number: 12,
+        return Err(Refused {
+            refusal: Refusal::NoRoomForStream,
             place: pairs,
-            pairs: 0,
-        };
+        });
     }
-    put_short(
-        room,
-        panel,
-        dots,
-        letters,
-        shapes,
-        graphic,
-        codes,
-        glyphs,
-        combination,
-        laid,
-    );
-    Written {
-        number: 0,
-        place: 0,
-        pairs,
-    }
+    let mut stream = Stream { room, at: 0 };
+    put_short(&mut stream, panel, a, b, style);
+    Ok(pairs)
 }

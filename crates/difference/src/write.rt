@@ -1,73 +1,41 @@
 // The short stream between two screens of a book.
-ghost use Rattle.std.specs.Prelude.{◌≡◌, true};
+ghost use Rattle.std.specs.Prelude.{◌≡◌, true, OnErr};
 ghost use Rattle.state.specs.State.{valid_panel};
-ghost use Rattle.contents.specs.Asked.{asked_of};
-ghost use Rattle.contents.specs.Numbers.{asked_number, asked_place};
 ghost use Rattle.book.specs.Screen.{screen_of};
-ghost use Rattle.writer.specs.Written.{wrote_all};
+ghost use Rattle.writer.specs.Written.{written_reply, wrote_all};
 ghost use Rattle.difference.specs.Change.{change_to, change_screens, change_of};
 ghost use Rattle.difference.specs.Differing.{PlanesFor};
 
-use super::changes::write_short;
-use contents::ask::{Asked, ask};
+use super::changes::{Planes, write_short};
+use contents::ask::ask;
 use picture::plan::planes;
 use state::panel::Panel;
-use state::reply::Reply;
-use writer::written::Written;
+use state::refusal::{Refusal, Refused};
 
-// Whether there is such a screen.
-fn sought(book: &[u8], key: usize) -> Reply
-    ensures { result ≡ record { number = asked_number (asked_of book.now key); place = asked_place (asked_of book.now key) } }
-{
-    let asked = ask(book, key);
-    match asked {
-        Asked::Body(_, _) => Reply {
-            number: 0,
-            place: 0,
-        },
-        Asked::Refused(number, place) => Reply { number, place },
-    }
-}
-
+// Three planes by `&mut`, here and in `write_from`: a struct of them would be taken apart at once for `planes`.
 // From planes to screen b, whose own planes fill the lent ones.
 fn write_between(
     panel: Panel,
     book: &[u8],
     b: usize,
-    dots: &[u8],
-    letters: &[u8],
-    shapes: &[u8],
+    old: Planes,
     graphic: &mut [u8],
     codes: &mut [u8],
     glyphs: &mut [u8],
     room: &mut [u8],
-) -> Written
-    requires planes_for { PlanesFor panel dots.now letters.now shapes.now }
+) -> Result<usize, Refused>
+    requires planes_for { PlanesFor panel old.graphic.now old.codes.now old.glyphs.now }
     requires planes_for_2 { PlanesFor panel graphic.old codes.old glyphs.old }
-    ensures { wrote_all result room.new ≡ change_to panel room.old dots.now letters.now shapes.now (screen_of panel book.now b) }
+    ensures value { wrote_all (written_reply result) room.new ≡ change_to panel room.old old.entry.graphic.now old.entry.codes.now old.entry.glyphs.now (screen_of panel book.now b) }
+    ensures refused { OnErr result (room.new ≡ room.old) }
 {
-    let new = planes(panel, book, b, graphic, codes, glyphs);
-    if new.number != 0 {
-        return Written {
-            number: new.number,
-            place: new.place,
-            pairs: 0,
-        };
-    }
-    let combination = new.combination;
-    let laid = new.cursor;
-    write_short(
-        room,
-        panel,
-        dots,
-        letters,
-        shapes,
+    let style = planes(panel, book, b, graphic, codes, glyphs)?;
+    let new = Planes {
         graphic,
         codes,
         glyphs,
-        combination,
-        laid,
-    )
+    };
+    write_short(room, panel, old, new, style)
 }
 
 // The same, with planes for b of its own.
@@ -75,13 +43,12 @@ fn write_to(
     panel: Panel,
     book: &[u8],
     b: usize,
-    dots: &[u8],
-    letters: &[u8],
-    shapes: &[u8],
+    old: Planes,
     room: &mut [u8],
-) -> Written
-    requires { PlanesFor panel dots.now letters.now shapes.now }
-    ensures { wrote_all result room.new ≡ change_to panel room.old dots.now letters.now shapes.now (screen_of panel book.now b) }
+) -> Result<usize, Refused>
+    requires { PlanesFor panel old.graphic.now old.codes.now old.glyphs.now }
+    ensures value { wrote_all (written_reply result) room.new ≡ change_to panel room.old old.entry.graphic.now old.entry.codes.now old.entry.glyphs.now (screen_of panel book.now b) }
+    ensures refused { OnErr result (room.new ≡ room.old) }
 {
     let size = panel.cell_count();
     let rows = 8 * size;
@@ -92,9 +59,7 @@ fn write_to(
         panel,
         book,
         b,
-        dots,
-        letters,
-        shapes,
+        old,
         &mut graphic[..rows],
         &mut codes[..size],
         &mut glyphs,
@@ -112,25 +77,32 @@ fn write_from(
     codes: &mut [u8],
     glyphs: &mut [u8],
     room: &mut [u8],
-) -> Written
+) -> Result<usize, Refused>
     requires { PlanesFor panel graphic.old codes.old glyphs.old }
-    ensures { wrote_all result room.new ≡ change_screens panel room.old (screen_of panel book.now a) (screen_of panel book.now b) }
+    ensures value { wrote_all (written_reply result) room.new ≡ change_screens panel room.old (screen_of panel book.now a) (screen_of panel book.now b) }
+    ensures refused { OnErr result (room.new ≡ room.old) }
 {
-    let old = planes(panel, book, a, graphic, codes, glyphs);
-    if old.number != 0 {
-        return Written {
-            number: old.number,
-            place: old.place,
-            pairs: 0,
-        };
-    }
-    write_to(panel, book, b, graphic, codes, glyphs, room)
+    planes(panel, book, a, graphic, codes, glyphs)?;
+    let old = Planes {
+        graphic,
+        codes,
+        glyphs,
+    };
+    write_to(panel, book, b, old, room)
 }
 
+// Arrays of its own, as `write_to`: what is lent has to be owned by a caller, and there is no heap.
 // Both screens are there: 11 for A, then B, then 12.
-fn write_screens(panel: Panel, book: &[u8], a: usize, b: usize, room: &mut [u8]) -> Written
+fn write_screens(
+    panel: Panel,
+    book: &[u8],
+    a: usize,
+    b: usize,
+    room: &mut [u8],
+) -> Result<usize, Refused>
     requires { valid_panel panel ≡ true }
-    ensures { wrote_all result room.new ≡ change_screens panel room.old (screen_of panel book.now a) (screen_of panel book.now b) }
+    ensures value { wrote_all (written_reply result) room.new ≡ change_screens panel room.old (screen_of panel book.now a) (screen_of panel book.now b) }
+    ensures refused { OnErr result (room.new ≡ room.old) }
 {
     let size = panel.cell_count();
     let rows = 8 * size;
@@ -149,33 +121,24 @@ fn write_screens(panel: Panel, book: &[u8], a: usize, b: usize, room: &mut [u8])
     )
 }
 
-// The short stream from screen a to screen b, for a controller that has just run a's stream.
-pub fn write_change(panel: Panel, book: &[u8], a: usize, b: usize, room: &mut [u8]) -> Written
-    ensures { wrote_all result room.new ≡ change_of panel book.now a b room.old }
+/// The short stream from screen a to screen b, for a controller that has just run a's stream, in the start of a lent room with two bytes
+/// for each pair; its pairs are answered, and the room's rest stays. Refused, with the room as it was: an `Invalid` panel, place 0;
+/// `WrongBook` and `NoSuchScreen` of a, then of b; `WrongOperation` of a, then of b; `NoRoomForStream` with the pairs needed.
+pub fn write_change(
+    panel: Panel,
+    book: &[u8],
+    a: usize,
+    b: usize,
+    room: &mut [u8],
+) -> Result<usize, Refused>
+    ensures value { wrote_all (written_reply result) room.new ≡ change_of panel book.now a b room.old }
+    ensures refused { OnErr result (room.new ≡ room.old) }
 {
     let valid = panel.valid();
     if !valid {
-        return Written {
-            number: 1,
-            place: 0,
-            pairs: 0,
-        };
+        return Err(Refusal::Invalid.into());
     }
-    let first = sought(book, a);
-    if first.number != 0 {
-        return Written {
-            number: first.number,
-            place: first.place,
-            pairs: 0,
-        };
-    }
-    let second = sought(book, b);
-    if second.number != 0 {
-        return Written {
-            number: second.number,
-            place: second.place,
-            pairs: 0,
-        };
-    }
+    ask(book, a)?;
+    ask(book, b)?;
     write_screens(panel, book, a, b, room)
 }

@@ -20,6 +20,8 @@ use Rattle.state.specs.State.{valid_panel, valid_display, valid_bus, valid_regis
 use Rattle.state.specs.Sizes.{row_size, frame_size, valid_size}
 use Rattle.state.proofs.Sizes.{is-size}
 use Rattle.state.proofs.Valid.{panelled}
+use Rattle.state.specs.declared.refusal.Refusal.{Refusal}
+use Rattle.state.specs.Refusals.{number_of}
 use Rattle.display.specs.Types.{Panel, Display, Registers, Reply}
 use Rattle.display.specs.Frame.{row_of, frame_of, lent_lengths, frame_fits, reply_of, Painted, painted, paint_of}
 use Rattle.display.specs.Drawable.{Drawable}
@@ -165,18 +167,18 @@ module _ (p : Panel) (r : Registers) (mem rom flags frame : List ℕ) {a b : Boo
         flagged-long =
             eqb-true (length frame) (8 * p.lines * row_size p) (both_right (lent_lengths mem rom) (frame_fits p frame) two) ∙ (λ k. sym flags-many k * sym flagged-row k)
 
-        pub flagged-0 : {f : List ℕ} {z : ℕ} → z ≡ 0 → f ≡ joined (length flags) (some_row p r.display mem rom 0 R flags frame) → painted (reply_of z) f ≡ paint_flagged_of p r mem rom flags frame
-        flagged-0 z u =
-            (λ k. painted (reply_of (z k))
+        pub flagged-0 : {f : List ℕ} → f ≡ joined (length flags) (some_row p r.display mem rom 0 R flags frame) → painted (reply_of 0) f ≡ paint_flagged_of p r mem rom flags frame
+        flagged-0 u =
+            (λ k. painted (reply_of 0)
             ((u ∙ (λ k. joined (flags-many k) (some_row p r.display mem rom 0 (flagged-row k) flags frame))
             ∙ joined-cong (8 * p.lines) (some_row p r.display mem rom 0 (row_size p) flags frame) (refreshed_row p r.display mem rom frame flags)
             (λ i l. ap (λ (q : ℕ). cond (eqb (get_or flags i 0) 0) (take (row_size p) (drop (i * row_size p) frame)) (row_of p r.display mem rom q)) (let o : 0 + i ≡ i = omega arith in o))) k))
             ∙ opens true true e (fit_is true h)
 
   -- turned away
-  pub flagged-no : {S n : ℕ} → S ≡ valid_size p (frame_size p) → n ≡ cond (a && b) (cond (asked S) 0 2) 1 → (n ≡ 0 → ⊥) → painted (reply_of n) frame ≡ paint_flagged_of p r mem rom flags frame
-  flagged-no {S} m e z =
-      turned-away (a && b) (asked S) (λ k. painted (reply_of k) frame) e z
+  pub flagged-no : {S : ℕ} (t : Refusal) → S ≡ valid_size p (frame_size p) → number_of t ≡ cond (a && b) (cond (asked S) 0 2) 1 → painted (reply_of (number_of t)) frame ≡ paint_flagged_of p r mem rom flags frame
+  flagged-no {S} t m e =
+      turned-away (a && b) (asked S) t (λ k. painted (reply_of k) frame) e
       (λ v. opens false (lent_lengths mem rom && frame_fits p frame && flags_fit p flags) v refl)
       (λ v f. opens true false v (fit_is v m false f))
 

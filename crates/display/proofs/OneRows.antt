@@ -15,12 +15,18 @@ use Rattle.ground.proofs.Tests.{both, both_left, both_right, settled}
 use Rattle.state.specs.State.{valid_panel, valid_display}
 use Rattle.state.specs.Sizes.{row_size, valid_size}
 use Rattle.state.proofs.Sizes.{is-size}
-use Rattle.display.specs.Types.{Panel, Display, Reply}
+use Rattle.state.specs.declared.refusal.Refusal.{Refusal}
+use Rattle.state.specs.Refusals.{number_of}
+use Rattle.state.specs.Replies.{reply}
+use Rattle.state.proofs.RefusalNumbers.{same_reply}
+use Rattle.std.proofs.Common.{Result}
+use Rattle.display.specs.Types.{Panel, Display}
 use Rattle.display.specs.Displayed.{cell_byte}
 use Rattle.display.specs.Frame.{dot_of, row_of, lent_lengths, reply_of, Painted, painted}
 use Rattle.display.specs.OneRow.{row_fits, paint_one_of}
 use Rattle.display.specs.Drawable.{Drawable}
 use Rattle.display.proofs.Doors.{drawable, rom-long, turned-away}
+use Rattle.display.specs.Types.{Reply}
 
 module _ (p : Panel) (d : Display) (mem rom : List ℕ) (r : ℕ) where
   pub row-length : length (row_of p d mem rom r) ≡ row_size p
@@ -71,8 +77,8 @@ module _ (p : Panel) (d : Display) (mem rom : List ℕ) (r : ℕ) where
         one-2 h = ones true false (tests e) (fits-are false h)
 
         module _ (h : (lent_lengths mem rom && eqb (length out) R) ≡ true) where
-          pub one-0 : {l : List ℕ} {n : ℕ} → n ≡ 0 → l ≡ row_of p d mem rom r → painted (reply_of n) l ≡ paint_one_of p d mem rom r out
-          one-0 z k = (λ q. painted (reply_of (z q)) (k q)) ∙ ones true true (tests e) (fits-are true h)
+          pub one-0 : {l : List ℕ} → l ≡ row_of p d mem rom r → painted (reply_of 0) l ≡ paint_one_of p d mem rom r out
+          one-0 k = ap (painted (reply_of 0)) k ∙ ones true true (tests e) (fits-are true h)
 
           pub one-drawable : Drawable p d mem
           one-drawable = drawable p d mem rom is-valid (sym j ∙ both_right a b e) (both_left (lent_lengths mem rom) (eqb (length out) R) h)
@@ -84,12 +90,18 @@ module _ (p : Panel) (d : Display) (mem rom : List ℕ) (r : ℕ) where
           one-stretch = omega (arith, eqb-true (length out) R (both_right (lent_lengths mem rom) (eqb (length out) R) h))
 
       -- turned away at the door
-      pub one-no : {R n : ℕ} → R ≡ valid_size p (row_size p) → n ≡ cond (a && b) (cond (lent_lengths mem rom && eqb (length out) R) 0 2) 1
-          → (n ≡ 0 → ⊥) → painted (reply_of n) out ≡ paint_one_of p d mem rom r out
-      one-no {R} m e z =
-          turned-away (a && b) (lent_lengths mem rom && eqb (length out) R) (λ k. painted (reply_of k) out) e z one-1 (λ v f. one-2 v m f)
+      pub one-no : {R : ℕ} (t : Refusal) → R ≡ valid_size p (row_size p) → number_of t ≡ cond (a && b) (cond (lent_lengths mem rom && eqb (length out) R) 0 2) 1
+          → painted (reply_of (number_of t)) out ≡ paint_one_of p d mem rom r out
+      one-no {R} t m e =
+          turned-away (a && b) (lent_lengths mem rom && eqb (length out) R) t (λ k. painted (reply_of k) out) e one-1 (λ v f. one-2 v m f)
 
--- two replies that meet a promise are equal
+-- two answers that meet a promise are equal
+pub one-result-settled : {x y : Result Unit Refusal} {f g : List ℕ} (p : Panel) (d : Display) (mem rom : List ℕ) (r : ℕ) (out : List ℕ)
+    → painted (reply x) f ≡ paint_one_of p d mem rom r out → painted (reply y) g ≡ paint_one_of p d mem rom r out → (x ≡ y) × (f ≡ g)
+one-result-settled {x} {y} p d mem rom r out h k =
+    (same_reply x y (ap (λ (o : Painted). o.reply) (settled h k)), ap (λ (o : Painted). o.frame) (settled h k))
+
+-- the same of replies
 pub one-settled : {x y : Reply} {f g : List ℕ} (p : Panel) (d : Display) (mem rom : List ℕ) (r : ℕ) (out : List ℕ)
     → painted x f ≡ paint_one_of p d mem rom r out → painted y g ≡ paint_one_of p d mem rom r out → (x ≡ y) × (f ≡ g)
 one-settled p d mem rom r out h k =

@@ -14,4 +14,4 @@ pub use Rattle.state.specs.declared.registers.Registers.{Registers}
 pub use Rattle.state.specs.declared.attribute.Manner.{Manner}
 pub use Rattle.state.specs.declared.attribute.Manner.TheVariants.{Normal, Reverse, Inhibit}
 pub use Rattle.state.specs.declared.attribute.Look.{Look}
-pub use Rattle.state.specs.declared.reply.Reply.{Reply}
+pub use Rattle.state.specs.Replies.{Reply}

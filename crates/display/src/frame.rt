@@ -1,21 +1,23 @@
 // The frame: every dot row, each into its own stretch.
-ghost use Rattle.std.specs.Prelude.{◌≡◌, ◌+◌, ◌*◌, ◌^◌, ◌≤◌, length};
+ghost use Rattle.std.specs.Prelude.{◌≡◌, true, ◌+◌, ◌*◌, ◌^◌, ◌≤◌, length, OnErr};
 ghost use Rattle.ground.specs.Lists.{joined};
 ghost use Rattle.ground.specs.Packing.{row_bytes};
 ghost use Rattle.display.specs.Frame.{painted, paint_of};
 ghost use Rattle.display.specs.Flagged.{some_row, paint_flagged_of};
 ghost use Rattle.display.specs.OneRow.{paint_one_of};
-ghost use Rattle.display.specs.Drawable.{Drawable};
+ghost use Rattle.state.specs.Replies.{reply};
+ghost use Rattle.state.specs.State.{valid_panel, valid_display};
 
-use super::door::refusal;
+use super::door::admit;
 use super::font::font;
 use super::layers::tables;
 use super::row::paint_row;
-use ground::bytes::lesser;
+use super::scene::Scene;
 use state::panel::Panel;
+use state::refusal::Refusal;
 use state::registers::{Display, Registers};
-use state::reply::Reply;
 
+// kept as parameters: the scene is made of them here, once for both callers
 // Dot rows of a valid state from `first` on, one for each flag, each into its own stretch; the bytes of one whose flag is 0 stay.
 fn paint_some(
     panel: Panel,
@@ -27,37 +29,38 @@ fn paint_some(
     bytes: usize,
     out: &mut [u8],
 )
-    requires drawable { Drawable panel display mem.now × (length rom.now ≡ 1024) }
+    requires valid { (valid_panel panel ≡ true) × (valid_display display ≡ true) }
+    requires lent { (length mem.now ≡ 65536) × (length rom.now ≡ 1024) }
     requires bytes_value { (bytes ≡ row_bytes panel.columns panel.width) × (length out.old ≡ length flags.now * bytes) × (first + length flags.now ≤ 2 ^ 64) }
     ensures { out.new ≡ joined (length flags.now) (some_row panel display mem.now rom.now first bytes flags.now out.old) }
 {
     let columns = panel.columns;
     let glyphs = font(display, mem, rom);
     let shades = tables(panel, display);
+    let scene = Scene {
+        panel,
+        display,
+        mem,
+        font: &glyphs,
+        shades: &shades,
+    };
     let mut cells = [0u8; 80];
-    let mut next: usize = 0;
-    while next < flags.len() {
-        let i = next;
-        next += 1;
-        if flags[i] == 0 {
+    for (i, flag) in flags.iter().enumerate() {
+        if *flag == 0 {
             continue;
         }
         let at = i * bytes;
-        let end = at + bytes;
         paint_row(
-            panel,
-            display,
-            mem,
-            &glyphs,
-            &shades,
+            &scene,
             first + i,
             &mut cells[..columns],
-            &mut out[at..end],
+            &mut out[at..at + bytes],
         );
     }
 }
 
-// The frame's flagged rows, or a refusal that leaves it as it was.
+/// The dot rows of `frame` whose flag is not 0 painted, the others' bytes as they were: memory of 65,536 bytes, ROM of 1,024, a frame of the
+/// panel's size, 8·L flags. Invalid, then WrongLength, and the frame is then as it was.
 pub fn paint_flagged(
     panel: Panel,
     registers: Registers,
@@ -65,30 +68,39 @@ pub fn paint_flagged(
     rom: &[u8],
     flags: &[u8],
     frame: &mut [u8],
-) -> Reply
-    ensures { painted result frame.new ≡ paint_flagged_of panel registers mem.now rom.now flags.now frame.old }
+) -> Result<(), Refusal>
+    ensures answer { painted (reply result) frame.new ≡ paint_flagged_of panel registers mem.now rom.now flags.now frame.old }
+    ensures err { OnErr result (frame.new ≡ frame.old) }
 {
     let valid = panel.valid() & registers.valid();
     let bytes = panel.row_size();
     let size = panel.frame_size();
     let rows = (flags.len() % 8 == 0) & (flags.len() / 8 == panel.lines);
-    let number = refusal(valid, mem, rom, (frame.len() == size) & rows);
-    if number == 0 {
-        paint_some(panel, registers.display, mem, rom, 0, flags, bytes, frame);
-    }
-    Reply { number, place: 0 }
+    admit(valid, mem, rom, (frame.len() == size) & rows)?;
+    paint_some(panel, registers.display, mem, rom, 0, flags, bytes, frame);
+    Ok(())
 }
 
-// The whole frame, or a refusal that leaves it as it was: every row is flagged. A panel has at most 32 lines, or it is refused.
-pub fn paint(panel: Panel, registers: Registers, mem: &[u8], rom: &[u8], frame: &mut [u8]) -> Reply
-    ensures { painted result frame.new ≡ paint_of panel registers mem.now rom.now frame.old }
+/// The whole frame painted: memory of 65,536 bytes, ROM of 1,024, a frame of the panel's size, whatever it holds. Invalid, then WrongLength,
+/// and the frame is then as it was.
+pub fn paint(
+    panel: Panel,
+    registers: Registers,
+    mem: &[u8],
+    rom: &[u8],
+    frame: &mut [u8],
+) -> Result<(), Refusal>
+    ensures answer { painted (reply result) frame.new ≡ paint_of panel registers mem.now rom.now frame.old }
+    ensures err { OnErr result (frame.new ≡ frame.old) }
 {
+    // every row is flagged; a panel has at most 32 lines, or it is refused
     let all = [1u8; 256];
-    let rows = 8 * lesser(panel.lines, 32);
+    let rows = 8 * panel.lines.min(32);
     paint_flagged(panel, registers, mem, rom, &all[..rows], frame)
 }
 
-// One dot row, any, in a buffer of just its bytes, or a refusal that leaves it as it was.
+/// Dot row `at`, any, painted into `out`, which has just a row's bytes: memory of 65,536 bytes, ROM of 1,024. Invalid, then WrongLength, and
+/// `out` is then as it was.
 pub fn paint_one(
     panel: Panel,
     display: Display,
@@ -96,15 +108,14 @@ pub fn paint_one(
     rom: &[u8],
     at: usize,
     out: &mut [u8],
-) -> Reply
-    ensures { painted result out.new ≡ paint_one_of panel display mem.now rom.now at out.old }
+) -> Result<(), Refusal>
+    ensures answer { painted (reply result) out.new ≡ paint_one_of panel display mem.now rom.now at out.old }
+    ensures err { OnErr result (out.new ≡ out.old) }
 {
     let valid = panel.valid() & display.valid();
     let bytes = panel.row_size();
-    let number = refusal(valid, mem, rom, out.len() == bytes);
-    if number == 0 {
-        let one = [1u8; 1];
-        paint_some(panel, display, mem, rom, at, &one, bytes, out);
-    }
-    Reply { number, place: 0 }
+    admit(valid, mem, rom, out.len() == bytes)?;
+    let one = [1u8; 1];
+    paint_some(panel, display, mem, rom, at, &one, bytes, out);
+    Ok(())
 }

@@ -5,9 +5,10 @@ ghost use Rattle.ground.specs.Lists.{build};
 ghost use Rattle.state.specs.Combination.{is_attribute};
 ghost use Rattle.display.specs.Displayed.{glyph_dots, text_dots, graphic_dots};
 ghost use Rattle.display.specs.Layers.{layers_at};
-ghost use Rattle.display.specs.Shaded.{Shaded, IsFont};
-ghost use Rattle.display.specs.Drawable.{Drawable, GraphicOver};
+ghost use Rattle.display.specs.Shaded.{Shaded};
+ghost use Rattle.display.specs.Drawable.{GraphicOver};
 
+use super::scene::Scene;
 use ground::stretches::{clear, give, look_up, read_round};
 use state::attribute::{shade, shades};
 use state::combination::{is_attribute, mix_round};
@@ -15,22 +16,12 @@ use state::panel::Panel;
 use state::registers::Display;
 
 // The glyph rows of the line's codes: first the codes, then what the font has for them.
-fn lay_glyphs(
-    panel: Panel,
-    display: Display,
-    mem: &[u8],
-    font: &[u8],
-    row: usize,
-    column: usize,
-    cells: &mut [u8],
-)
-    requires drawable { Drawable panel display mem.now }
-    requires font { IsFont display mem.now font.now }
-    ensures { cells.new ≡ build (length cells.old) (λ j. glyph_dots panel display mem.now font.now row (column + j)) }
+fn lay_glyphs(scene: &Scene, row: usize, column: usize, cells: &mut [u8])
+    ensures { cells.new ≡ build (length cells.old) (λ j. glyph_dots scene.now.panel scene.now.display scene.now.mem.now scene.now.font.now row (column + j)) }
 {
-    let at = display.text.address(row / 8, column);
-    read_round(8, mem, at, cells);
-    look_up(panel.width, font, row % 8, cells);
+    let at = scene.display.text.address(row / 8, column);
+    read_round(8, scene.mem, at, cells);
+    look_up(scene.panel.width, scene.font, row % 8, cells);
 }
 
 // The table of a state: in attribute mode the shades, else none are asked for.
@@ -47,30 +38,18 @@ pub(crate) fn tables(panel: Panel, display: Display) -> [u8; 32]
 }
 
 // The text's dots: the glyph rows, and in attribute mode the line's attributes over them.
-fn lay_text(
-    panel: Panel,
-    display: Display,
-    mem: &[u8],
-    font: &[u8],
-    shades: &[u8],
-    row: usize,
-    column: usize,
-    cells: &mut [u8],
-)
-    requires drawable { Drawable panel display mem.now }
-    requires font { IsFont display mem.now font.now }
-    requires shaded { Shaded panel display shades.now }
-    ensures { cells.new ≡ build (length cells.old) (λ j. text_dots panel display mem.now font.now row (column + j)) }
+fn lay_text(scene: &Scene, row: usize, column: usize, cells: &mut [u8])
+    ensures { cells.new ≡ build (length cells.old) (λ j. text_dots scene.now.panel scene.now.display scene.now.mem.now scene.now.font.now row (column + j)) }
 {
+    let display = scene.display;
     if !display.bits.text {
         clear(cells);
         return;
     }
-    lay_glyphs(panel, display, mem, font, row, column, cells);
-    let combination = display.combination;
-    if is_attribute(combination) & display.bits.graphic {
+    lay_glyphs(scene, row, column, cells);
+    if is_attribute(display.combination) & display.bits.graphic {
         let at = display.graphic.address(row / 8, column);
-        shade(panel.width, mem, at, shades, cells);
+        shade(scene.panel.width, scene.mem, at, scene.shades, cells);
     }
 }
 
@@ -133,27 +112,20 @@ fn lay_graphic(
 // The routine that yields a displayed byte: the layers of a dot row from a column on. What comes of them fills its list; text and graphic
 // are given out as far as their lists go, the painter's to no cell.
 pub(crate) fn lay(
-    panel: Panel,
-    display: Display,
-    mem: &[u8],
-    font: &[u8],
-    shades: &[u8],
+    scene: &Scene,
     row: usize,
     column: usize,
     text: &mut [u8],
     graphic: &mut [u8],
     shown: &mut [u8],
 )
-    requires drawable { Drawable panel display mem.now }
-    requires font { IsFont display mem.now font.now }
-    requires shaded { Shaded panel display shades.now }
     requires text_in_bounds { length text.old ≤ length shown.old }
-    ensures text_after { text.new ≡ build (length text.old) (λ j. (layers_at panel display mem.now font.now row (column + j)).text) }
-    ensures graphic_after { graphic.new ≡ build (length graphic.old) (λ j. (layers_at panel display mem.now font.now row (column + j)).graphic) }
-    ensures shown_after { shown.new ≡ build (length shown.old) (λ j. (layers_at panel display mem.now font.now row (column + j)).shown) }
+    ensures text_after { text.new ≡ build (length text.old) (λ j. (layers_at scene.now.panel scene.now.display scene.now.mem.now scene.now.font.now row (column + j)).text) }
+    ensures graphic_after { graphic.new ≡ build (length graphic.old) (λ j. (layers_at scene.now.panel scene.now.display scene.now.mem.now scene.now.font.now row (column + j)).graphic) }
+    ensures shown_after { shown.new ≡ build (length shown.old) (λ j. (layers_at scene.now.panel scene.now.display scene.now.mem.now scene.now.font.now row (column + j)).shown) }
 {
-    lay_text(panel, display, mem, font, shades, row, column, shown);
+    lay_text(scene, row, column, shown);
     give(shown, text);
-    give_graphic(panel, display, mem, row, column, graphic);
-    lay_graphic(panel, display, mem, row, column, shown);
+    give_graphic(scene.panel, scene.display, scene.mem, row, column, graphic);
+    lay_graphic(scene.panel, scene.display, scene.mem, row, column, shown);
 }

@@ -7,4 +7,5 @@ mod font;
 pub mod frame;
 mod layers;
 mod row;
+mod scene;
 pub mod seen;

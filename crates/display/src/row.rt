@@ -2,11 +2,11 @@
 ghost use Rattle.std.specs.Prelude.{◌≡◌, ◌⊎◌, ◌≤◌, length};
 ghost use Rattle.ground.specs.Packing.{row_bytes};
 ghost use Rattle.display.specs.Frame.{row_of};
-ghost use Rattle.display.specs.Drawable.{Drawable, CursorOver};
-ghost use Rattle.display.specs.Shaded.{Shaded, IsFont};
+ghost use Rattle.display.specs.Drawable.{CursorOver};
 
 use super::cursor::{cursor_covers, cursor_lit};
 use super::layers::lay;
+use super::scene::Scene;
 use ground::bytes::full;
 use ground::cells::pack;
 use state::panel::Panel;
@@ -27,37 +27,14 @@ fn lay_cursor(panel: Panel, display: Display, row: usize, cells: &mut [u8])
 }
 
 // A row painted; its cells are laid in what is lent.
-pub(crate) fn paint_row(
-    panel: Panel,
-    display: Display,
-    mem: &[u8],
-    font: &[u8],
-    shades: &[u8],
-    row: usize,
-    cells: &mut [u8],
-    out: &mut [u8],
-)
-    requires drawable { Drawable panel display mem.now }
-    requires font { IsFont display mem.now font.now }
-    requires shaded { Shaded panel display shades.now }
-    requires cells_len { length cells.old ≡ panel.columns }
-    requires out_len { length out.old ≡ row_bytes panel.columns panel.width }
-    ensures { out.new ≡ row_of panel display mem.now font.now row }
+pub(crate) fn paint_row(scene: &Scene, row: usize, cells: &mut [u8], out: &mut [u8])
+    requires cells_len { length cells.old ≡ scene.now.panel.columns }
+    requires out_len { length out.old ≡ row_bytes scene.now.panel.columns scene.now.panel.width }
+    ensures { out.new ≡ row_of scene.now.panel scene.now.display scene.now.mem.now scene.now.font.now row }
 {
     let mut text = [0u8; 0];
     let mut graphic = [0u8; 0];
-    lay(
-        panel,
-        display,
-        mem,
-        font,
-        shades,
-        row,
-        0,
-        &mut text,
-        &mut graphic,
-        cells,
-    );
-    lay_cursor(panel, display, row, cells);
-    pack(panel.width, cells, out);
+    lay(scene, row, 0, &mut text, &mut graphic, cells);
+    lay_cursor(scene.panel, scene.display, row, cells);
+    pack(scene.panel.width, cells, out);
 }

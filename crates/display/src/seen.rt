@@ -1,16 +1,18 @@
 // The layers of a dot row, for whoever asks.
-ghost use Rattle.std.specs.Prelude.{◌≡◌};
+ghost use Rattle.std.specs.Prelude.{◌≡◌, OnErr};
+ghost use Rattle.state.specs.Replies.{reply};
 ghost use Rattle.display.specs.Layers.{stretch, row_layers_of};
 
-use super::door::refusal;
+use super::door::admit;
 use super::font::font;
 use super::layers::{lay, tables};
+use super::scene::Scene;
 use state::panel::Panel;
+use state::refusal::Refusal;
 use state::registers::Display;
-use state::reply::Reply;
 
-// The layers of any dot row from any column on, as many cells as the three lists are long, or a refusal that leaves them as they were. The
-// formulas go on modulo 65,536 past the panel.
+/// The layers of any dot row from any column on, into three lists of one length, a cell each: memory of 65,536 bytes, ROM of 1,024. The
+/// formulas go on modulo 65,536 past the panel. Invalid, then WrongLength, and the lists are then as they were.
 pub fn row_layers(
     panel: Panel,
     display: Display,
@@ -21,18 +23,22 @@ pub fn row_layers(
     text: &mut [u8],
     graphic: &mut [u8],
     shown: &mut [u8],
-) -> Reply
-    ensures { stretch result text.new graphic.new shown.new ≡ row_layers_of panel display mem.now rom.now row column text.old graphic.old shown.old }
+) -> Result<(), Refusal>
+    ensures answer { stretch (reply result) text.new graphic.new shown.new ≡ row_layers_of panel display mem.now rom.now row column text.old graphic.old shown.old }
+    ensures err { OnErr result ((text.new ≡ text.old) × (graphic.new ≡ graphic.old) × (shown.new ≡ shown.old)) }
 {
     let valid = panel.valid() & display.valid();
     let alike = (text.len() == shown.len()) & (graphic.len() == shown.len());
-    let number = refusal(valid, mem, rom, alike);
-    if number == 0 {
-        let glyphs = font(display, mem, rom);
-        let shades = tables(panel, display);
-        lay(
-            panel, display, mem, &glyphs, &shades, row, column, text, graphic, shown,
-        );
-    }
-    Reply { number, place: 0 }
+    admit(valid, mem, rom, alike)?;
+    let glyphs = font(display, mem, rom);
+    let shades = tables(panel, display);
+    let scene = Scene {
+        panel,
+        display,
+        mem,
+        font: &glyphs,
+        shades: &shades,
+    };
+    lay(&scene, row, column, text, graphic, shown);
+    Ok(())
 }

@@ -1,17 +1,15 @@
 -- The draw program's text, from what drawing and printing answered.
-use mathlib.Core.Path.{◌≡◌, refl, ap, sym, ◌∙◌}
+use mathlib.Core.Path.{◌≡◌, refl, ap, ◌∙◌}
 use mathlib.Core.Bool.{Bool, true, false, cond, ◌&&◌}
 use mathlib.Core.List.{List}
 use Prim.Native.Nat.{ℕ, ◌*◌, ◌≤◌}
-use native.Mathlib.Nat.{mul_assoc}
 use native.Mathlib.Omega.{arith}
 use lib.Dec.{eqb}
 use lib.ListN.{length, drop}
-use borrow.Author.Tests.{eq-eqb}
 use Rattle.ground.specs.Packing.{row_bytes}
 use Rattle.ground.proofs.Tests.{both, both_right}
 use Rattle.state.specs.declared.panel.Panel.{Panel}
-use Rattle.state.specs.declared.reply.Reply.{Reply}
+use Rattle.state.specs.Replies.{Reply}
 use Rattle.state.specs.State.{valid_panel}
 use Rattle.display.specs.Frame.{frame_fits, reply_of}
 use Rattle.contents.specs.Contents.{word_at}
@@ -20,29 +18,11 @@ use Rattle.book.specs.Numbers.{screen_number}
 use Rattle.book.proofs.Numbers.{refusal-number}
 use Rattle.painter.specs.Drawn.{Drew, drew_all, planes_fit, draw_screen, draw_of}
 use Rattle.printed.specs.declared.told.Told.{Told}
-use Rattle.state.specs.Sizes.{frame_size, cell_count, valid_size}
-use Rattle.state.proofs.Sizes.{is-size}
 use Rattle.printed.specs.Printed.{panel_in, refusal_line, printed, print_text, Reported, reported}
 use Rattle.printed.specs.Screen.{picture_text, framed, print_picture_of}
 use Rattle.printed.proofs.Screens.{line-alone, may-print}
 use Rattle.printed.proofs.Texts.{printed-within, reported-settled}
 use Rattle.draw.specs.Drawing.{phase_in, drawn, draw_text, draw_text_of, PlanesCut}
-
--- the parts lent are the panel's
-pub cut_fits : (p : Panel) {size bytes : ℕ} {rom g t l f : List ℕ} → size ≡ valid_size p (cell_count p) → bytes ≡ valid_size p (frame_size p) → length rom ≡ 1024 → length g ≡ 8 * size
-    → length t ≡ size → length l ≡ 1024 → length f ≡ bytes → PlanesCut p rom g t l f
-cut_fits p {size} {bytes} {rom} {g} {t} {l} {f} i j a b c d e =
-    record {
-      fits = λ v.
-          let s : size ≡ cell_count p = is-size p v i in
-          let n : bytes ≡ frame_size p = is-size p v j in
-          both
-          (both
-          (both (both (eq-eqb (length rom) 1024 a) (eq-eqb (length g) (8 * p.lines * p.columns) (b ∙ ap (λ (m : ℕ). 8 * m) s ∙ sym (mul_assoc 8 p.lines p.columns))))
-          (eq-eqb (length t) (p.lines * p.columns) (c ∙ s)))
-          (eq-eqb (length l) 1024 d))
-          (eq-eqb (length f) (8 * p.lines * row_bytes p.columns p.width) (e ∙ n));
-    }
 
 module _ (p : Panel) (book : List ℕ) (number : ℕ) (rom : List ℕ) (normal : Bool) (g t l f : List ℕ) (fits : PlanesCut p rom g t l f) where
   abbrev came : Bool → Screen

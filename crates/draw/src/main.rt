@@ -15,6 +15,7 @@ use printed::told::Told;
 use report::{STDOUT_FILENO, has_argument, read_rom, read_whole, report};
 use state::panel::Panel;
 
+// So many parameters: it exists because they are parts of arrays that its caller owns.
 // A screen's picture as text, drawn in planes and a frame of its panel's lengths; in the phase that is off where its byte is 0.
 fn print_screen(
     dual: bool,
@@ -34,11 +35,16 @@ fn print_screen(
     let key = word_at(input, 3) as usize;
     let phase = byte_in(input, 5) != 0;
     let book = rest_in(input, 6);
-    let reply = draw(panel, book, key, rom, phase, graphic, codes, glyphs, frame);
-    let count = print_picture(panel, reply.number, reply.place, frame, out);
-    Told {
-        count,
-        number: reply.number,
+    match draw(panel, book, key, rom, phase, graphic, codes, glyphs, frame) {
+        Ok(()) => Told {
+            count: print_picture(panel, 0, 0, frame, out),
+            number: 0,
+        },
+        Err(refused) => {
+            let number = refused.refusal.number();
+            let count = print_picture(panel, number, refused.place, frame, out);
+            Told { count, number }
+        }
     }
 }
 
@@ -69,18 +75,17 @@ fn draw_text(dual: bool, rom: &[u8], input: &[u8], out: &mut [u8]) -> Told
     )
 }
 
+// Its own in each program: the room's length and what is shown differ, and a closure would be no plainer.
 // One byte past the limit shows that a book is too long.
 fn main(rt: HostRuntime) {
     let mut rom = character_rom();
-    if !read_rom(&mut rt.stdin(), has_argument(&rt, 1), &mut rom) {
+    if read_rom(&mut rt.stdin(), has_argument(&rt, 1), &mut rom).is_err() {
         return;
     }
     let mut input = [0u8; 32775];
-    let got = read_whole(&mut rt.stdin(), &mut input);
-    if got.failed {
+    let Ok(end) = read_whole(&mut rt.stdin(), &mut input) else {
         return;
-    }
-    let end = got.count;
+    };
     let mut out = [0u8; 196608];
     let told = draw_text(has_argument(&rt, 2), &rom, &input[..end], &mut out);
     let count = told.count;

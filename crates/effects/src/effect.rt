@@ -1,140 +1,77 @@
 // What the parts of an access do to the registers.
-ghost use Rattle.std.specs.Prelude.{◌≡◌, ◌+◌, ◌%◌, if◌then◌else◌, nat_lt};
-ghost use Rattle.effects.specs.Effect.{with_mode, with_auto, pushed, moved_of, set_of, is_write, is_read, auto_bits, bus_status, status_of};
+ghost use Rattle.std.specs.Prelude.{◌≡◌, if◌then◌else◌};
+ghost use Rattle.effects.specs.Effect.{with_auto, pushed, moved_of, set_of, is_write, is_read, auto_bits, bus_status, status_of};
 
 use ground::bytes::word;
-use state::registers::{Auto, Bus, Combination, Cursor, Display, Move, Pending, Registers, Target};
+use state::registers::{Auto, Bus, Move, Pending, Registers, Target};
 
-pub fn with_mode(display: Display, external: bool, combination: Combination) -> Display
-    ensures { result ≡ with_mode display external combination }
-{
-    let text = display.text;
-    let graphic = display.graphic;
-    let bits = display.bits;
-    let cursor = display.cursor;
-    Display {
-        text,
-        graphic,
-        offset: display.offset,
-        combination,
-        external,
-        bits,
-        cursor,
-        phase: display.phase,
-    }
-}
-
+/// The bus in another auto mode, all else as it was.
 pub fn with_auto(bus: Bus, auto: Auto) -> Bus
     ensures { result ≡ with_auto bus auto }
 {
-    let pending = bus.pending;
-    Bus {
-        pointer: bus.pointer,
-        auto,
-        pending,
-        latch: bus.latch,
-        error: bus.error,
-    }
+    let mut next = bus;
+    next.auto = auto;
+    next
 }
 
-// One more than a count below 2, else 2.
-fn counted(count: u8) -> u8
-    ensures { result ≡ (if nat_lt count 2 then count + 1 else 2) }
-{
-    if count < 2 { count + 1 } else { 2 }
-}
-
-// The byte becomes the newest of the last two pending.
-pub fn push(pending: Pending, byte: u8) -> Pending
-    ensures { result ≡ pushed pending byte }
-{
-    Pending {
-        count: counted(pending.count),
-        older: pending.newest,
-        newest: byte,
-    }
-}
-
-// The pointer runs from FFFFH to 0000H and back.
+/// The pointer moved: it runs from FFFFH to 0000H and back.
 pub fn moved(direction: Move, pointer: u16) -> u16
     ensures { result ≡ moved_of direction pointer }
 {
     match direction {
-        Move::Up => std::num::wrapping_add_u16(pointer, 1),
-        Move::Down => std::num::wrapping_sub_u16(pointer, 1),
+        Move::Up => pointer.wrapping_add(1),
+        Move::Down => pointer.wrapping_sub(1),
         Move::Stay => pointer,
     }
 }
 
-// What the data D1 and D2 are taken for.
-pub fn set_target(target: Target, d1: u8, d2: u8, registers: Registers) -> Registers
-    ensures { result ≡ set_of target d1 d2 registers }
+/// The byte becomes the newest of the last two pending.
+pub fn push(pending: &mut Pending, byte: u8)
+    ensures { pending.new ≡ pushed pending.old byte }
 {
-    let mut next = registers;
-    let mut display = registers.display;
-    let mut bus = registers.bus;
+    *pending = Pending {
+        count: if pending.count < 2 {
+            pending.count + 1
+        } else {
+            2
+        },
+        older: pending.newest,
+        newest: byte,
+    };
+}
+
+/// What the data D1 and D2 are taken for.
+pub fn set(registers: &mut Registers, target: Target, d1: u8, d2: u8)
+    ensures { registers.new ≡ set_of target d1 d2 registers.old }
+{
+    let display = &mut registers.display;
     match target {
         Target::Cursor => {
-            let x = d1 % 128;
-            let y = d2 % 32;
-            display.cursor.x = x;
-            display.cursor.y = y;
-            next.display = display;
-            next
+            display.cursor.x = d1 % 128;
+            display.cursor.y = d2 % 32;
         }
-        Target::Offset => {
-            display.offset = d1 % 32;
-            next.display = display;
-            next
-        }
-        Target::Pointer => {
-            bus.pointer = word(d1, d2);
-            next.bus = bus;
-            next
-        }
-        Target::TextHome => {
-            let home = word(d1, d2);
-            display.text.home = home;
-            next.display = display;
-            next
-        }
-        Target::TextArea => {
-            display.text.area = d1;
-            next.display = display;
-            next
-        }
-        Target::GraphicHome => {
-            let home = word(d1, d2);
-            display.graphic.home = home;
-            next.display = display;
-            next
-        }
-        Target::GraphicArea => {
-            display.graphic.area = d1;
-            next.display = display;
-            next
-        }
+        Target::Offset => display.offset = d1 % 32,
+        Target::Pointer => registers.bus.pointer = word(d1, d2),
+        Target::TextHome => display.text.home = word(d1, d2),
+        Target::TextArea => display.text.area = d1,
+        Target::GraphicHome => display.graphic.home = word(d1, d2),
+        Target::GraphicArea => display.graphic.area = d1,
     }
 }
 
+// Functions, here and below: they are the names that the definitions `is_write` and `is_read` stand over.
+/// Whether data written go to the memory.
 pub fn is_write(auto: Auto) -> bool
     ensures { result ≡ is_write auto }
 {
-    match auto {
-        Auto::Off => false,
-        Auto::Write => true,
-        Auto::Read => false,
-    }
+    matches!(auto, Auto::Write)
 }
 
+/// Whether data are read from the memory.
 pub fn is_read(auto: Auto) -> bool
     ensures { result ≡ is_read auto }
 {
-    match auto {
-        Auto::Off => false,
-        Auto::Write => false,
-        Auto::Read => true,
-    }
+    matches!(auto, Auto::Read)
 }
 
 fn when(on: bool, bits: u8) -> u8
@@ -153,18 +90,16 @@ fn auto_bits(auto: Auto) -> u8
     }
 }
 
-// The status byte, of the bus and the phase.
+/// The status byte, of the bus and the phase.
 pub fn bus_status(bus: Bus, phase: bool) -> u8
     ensures { result ≡ bus_status bus phase }
 {
-    let auto = bus.auto;
-    auto_bits(auto) | 0x20 | when(bus.error, 0x40) | when(phase, 0x80)
+    auto_bits(bus.auto) | 0x20 | when(bus.error, 0x40) | when(phase, 0x80)
 }
 
+/// The status byte.
 pub fn status(registers: Registers) -> u8
     ensures { result ≡ status_of registers }
 {
-    let bus = registers.bus;
-    let display = registers.display;
-    bus_status(bus, display.phase)
+    bus_status(registers.bus, registers.display.phase)
 }

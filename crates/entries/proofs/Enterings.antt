@@ -11,9 +11,8 @@ use lib.Seq.{sets}
 use borrow.Author.Tests.{lt-ltb, le-ltb, ltb-true, ltb-false}
 use Rattle.ground.proofs.Tests.{either}
 use Rattle.ground.proofs.Conjuncts.{neither}
-use Rattle.entries.specs.declared.enter.Entered.{Entered}
 use Rattle.entries.specs.Listed.{Difference, difference, differences_from, numbers_of}
-use Rattle.entries.specs.Entered.{EnteredAll, entered_all, entered_of}
+use Rattle.entries.specs.Entered.{Entered, EnteredAll, entered_all, entered_of}
 use Rattle.entries.proofs.Listings.{numbers-append, numbers-length, sets-append}
 
 -- lists cut where the shorter ends differ as before

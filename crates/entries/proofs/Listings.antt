@@ -9,6 +9,8 @@ use lib.Dec.{eqb}
 use lib.ListN.{length, get_or, drop, set, drop_of_length-le}
 use lib.Seq.{drop-cons, sets, length-sets}
 use borrow.Author.Tests.{eq-eqb, ne_eqb}
+use mathlib.Core.List.{map}
+use Rattle.std.proofs.lemmas.List.{get_or-map, map-id}
 use Rattle.entries.specs.Listed.{Difference, difference, differences_from, numbers_of}
 
 pub differences-few : (i : ℕ) (xs ys : List ℕ) → length (differences_from i xs ys) ≤ length xs
@@ -135,3 +137,11 @@ pub listed-all : {xs ys l₀ : List ℕ} {from : ℕ} {l : List ℕ} {at i : ℕ
 unfolding numbers_of
 listed-all {xs} {ys} {l₀} {from} {l} {at} {i} k h =
     sym (ap (λ (ds : List Difference). sets l at (numbers_of ds)) (apart-end xs ys i h)) ∙ k.comes
+
+-- the value of what stands at a place
+pub value-at : {X : Type 0} (f : X → ℕ) (xs : List X) (i : ℕ) {x : X} {v : ℕ} → i < length xs → x ≡ get_or xs i x → v ≡ f x → v ≡ get_or (map f xs) i 0
+value-at f xs i {x} h e g = g ∙ ap f e ∙ sym (get_or-map f xs i x 0 h)
+
+-- numbers are their own values
+pub alike : (xs ys : List ℕ) → differences_from 0 (map (λ n. n) xs) (map (λ n. n) ys) ≡ differences_from 0 xs ys
+alike xs ys = λ i. differences_from 0 (map-id xs i) (map-id ys i)

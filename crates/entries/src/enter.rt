@@ -1,49 +1,59 @@
 // The entries of bytes, then those of values, at a list's start.
-ghost use Rattle.std.specs.Prelude.{◌≡◌, length};
+ghost use Rattle.std.specs.Prelude.{◌≡◌, length, OnErr};
 ghost use Rattle.entries.specs.Listed.{differences_from};
-ghost use Rattle.entries.specs.Entered.{entered_all, entered_of};
+ghost use Rattle.entries.specs.Entered.{entered, entered_all, entered_of};
 
-use super::list::{count_bytes, count_values, list_bytes, list_values};
-use ground::bytes::lesser;
+use super::list::{count_apart, list_apart};
 
-// The entries of each, and whether there was room for them.
-#[derive(Clone, Copy)]
-pub struct Entered {
+/// How many entries the bytes have and how many the values, three numbers of a list each.
+#[derive(Clone, Copy, Debug, PartialEq, Eq)]
+pub struct Entries {
     pub bytes: usize,
     pub values: usize,
-    pub listed: bool,
 }
+
+/// The list has no room for all of these entries.
+#[derive(Clone, Copy, Debug, PartialEq, Eq)]
+pub struct NoRoom(pub Entries);
 
 // Counted before the list is touched.
-fn enter_alike(one: &[u8], two: &[u8], a: &[usize], b: &[usize], list: &mut [usize]) -> Entered
+fn enter_alike(
+    one: &[u8],
+    two: &[u8],
+    a: &[usize],
+    b: &[usize],
+    list: &mut [usize],
+) -> Result<Entries, NoRoom>
     requires { (length one.now ≡ length two.now) × (length a.now ≡ length b.now) }
-    ensures { entered_all result list.new ≡ entered_of list.old (differences_from 0 one.now two.now) (differences_from 0 a.now b.now) }
+    ensures answer { entered_all (entered result) list.new ≡ entered_of list.old (differences_from 0 one.now two.now) (differences_from 0 a.now b.now) }
+    ensures err { OnErr result (list.new ≡ list.old) }
 {
-    let bytes = count_bytes(one, two);
-    let values = count_values(a, b);
+    let bytes = count_apart(one, two);
+    let values = count_apart(a, b);
     let room = list.len() / 3;
-    let left = room - lesser(room, bytes);
+    let left = room - room.min(bytes);
+    let entries = Entries { bytes, values };
     if (room < bytes) | (left < values) {
-        return Entered {
-            bytes,
-            values,
-            listed: false,
-        };
+        return Err(NoRoom(entries));
     }
-    list_bytes(one, two, list, 0);
-    list_values(a, b, list, 3 * bytes);
-    Entered {
-        bytes,
-        values,
-        listed: true,
-    }
+    list_apart(one, two, list, 0);
+    list_apart(a, b, list, 3 * bytes);
+    Ok(entries)
 }
 
-// Of lists of two lengths, as far as the shorter goes.
-pub fn enter(one: &[u8], two: &[u8], a: &[usize], b: &[usize], list: &mut [usize]) -> Entered
-    ensures { entered_all result list.new ≡ entered_of list.old (differences_from 0 one.now two.now) (differences_from 0 a.now b.now) }
+/// What differs in two lists of bytes and then in two of values, as far as the shorter of each two goes, ascending at the list's start: place,
+/// the first's and the second's. NoRoom with the entries needed, and the list is then as it was.
+pub fn enter(
+    one: &[u8],
+    two: &[u8],
+    a: &[usize],
+    b: &[usize],
+    list: &mut [usize],
+) -> Result<Entries, NoRoom>
+    ensures answer { entered_all (entered result) list.new ≡ entered_of list.old (differences_from 0 one.now two.now) (differences_from 0 a.now b.now) }
+    ensures err { OnErr result (list.new ≡ list.old) }
 {
-    let m = lesser(one.len(), two.len());
-    let n = lesser(a.len(), b.len());
+    let m = one.len().min(two.len());
+    let n = a.len().min(b.len());
     enter_alike(&one[..m], &two[..m], &a[..n], &b[..n], list)
 }

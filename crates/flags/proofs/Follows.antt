@@ -3,30 +3,31 @@ use mathlib.Core.Path.{◌≡◌, refl, ap, sym, ◌∙◌}
 use mathlib.Core.Bool.{Bool, true, false, cond, not, ◌&&◌, ◌||◌, true≢false}
 use mathlib.Core.Logic.{⊎_elim}
 use mathlib.Core.List.{List}
-use Prim.Native.Nat.{ℕ, ◌*◌, ◌/◌, ◌%◌, ◌<◌, ◌≤◌}
-use native.Mathlib.Omega.{arith}
+use Prim.Native.Nat.{ℕ, ◌*◌, ◌/◌, ◌%◌, ◌<◌}
 use lib.Dec.{eqb}
 use lib.ListN.{length, get_or}
 use borrow.Author.Tests.{eqb-true, eq-eqb}
 use Rattle.ground.proofs.Lists.{build-cong}
-use Rattle.ground.proofs.Tests.{both, both_left, both_right, either}
-use Rattle.state.specs.State.{valid_panel, valid_display, valid_bus, valid_registers}
-use Rattle.state.proofs.Valid.{panelled}
+use Rattle.ground.proofs.Tests.{both, both_left, either}
+use Rattle.touch.proofs.Marks.{marks-none}
+use Rattle.flags.proofs.Rights.{same-own}
+use Rattle.flags.proofs.Stills.{Still, stills}
+use Rattle.std.proofs.Common.{IfSome, Option, Some, None, Ok, Err, subst}
+use Rattle.state.specs.declared.refusal.Refusal.{Refusal}
+use Rattle.state.specs.State.{valid_display, valid_bus}
 use Rattle.state.specs.Address.{address_of}
 use Rattle.display.specs.Displayed.{text_code}
-use Rattle.display.specs.Frame.{lent_lengths}
 use Rattle.effects.specs.Machine.{Machine, machine}
-use Rattle.controller.specs.Access.{Pair, Step, done, answered, refused, step_of, replied, accessed, acted_of, access_of}
+use Rattle.controller.specs.Access.{Pair, Step, done, answered, refused, step_of}
 use Rattle.stores.specs.Stores.{stores_of, stores_asked, from_address}
 use Rattle.controller.proofs.Goings.{Leaves}
 use Rattle.stores.proofs.Stored.{Stored, step-stores}
-use Rattle.controller.proofs.Turns.{step-number}
-use Rattle.flags.specs.Types.{Panel, Display, Registers, Acted}
+use Rattle.single.specs.Outcome.{outcome, entered_of}
+use Rattle.flags.specs.Types.{Panel, Display, Registers}
 use Rattle.touch.specs.Touch.{any_of, in_row, glyph_byte_at, glyph_at, plane_row, touches, touched_by, touched}
-use Rattle.display.specs.Flagged.{flags_fit}
 use Rattle.touch.specs.Marked.{marked_of, marks_of}
-use Rattle.flags.specs.Flags.{same_display, flags_after, with_flags, flag_step, flag_by}
-use Rattle.flags.specs.Follow.{Followed, followed, followed_by, followed_of, follow_of}
+use Rattle.flags.specs.Flags.{same_display, flags_after, Flagged, with_flags, flag_by}
+use Rattle.flags.specs.Outcome.{flag_outcome}
 use Rattle.flags.specs.Ready.{Following}
 use Rattle.touch.proofs.Anys.{alike, or_left, or_right, any_found, any-has}
 
@@ -96,82 +97,43 @@ module _ (p : Panel) (r : Registers) (mem rom flags : List ℕ) (q : Pair) (k : 
       (marked_of p r.display memory r.bus.pointer n altered flags) flags)
       flags
 
-  stepped : {x : Acted} {m : List ℕ} → replied x m ≡ access_of p r mem rom q → replied x m ≡ acted_of r mem (step_of p rom (machine r mem) q)
-  unfolding access_of
-  stepped e =
-      e ∙ (λ i. cond (k.panel i && k.state i) (cond (k.lent i) (acted_of r mem (step_of p rom (machine r mem) q)) (accessed 2 r 0 mem)) (accessed 1 r 0 mem))
+  -- a pair done on what is known to be valid
+  stepped : {s : Step Machine} → s ≡ entered_of p r mem rom q → s ≡ step_of p rom (machine r mem) q
+  unfolding entered_of
+  stepped e = e ∙ (λ i. cond (k.panel i && k.state i) (cond (k.lent i) (step_of p rom (machine r mem) q) (refused 2)) (refused 1))
 
-  abbrev followed_as : Step Machine → Followed
-  followed_as o = followed_of r mem flags (flag_by p (with_flags (machine r mem) flags) q o)
+  abbrev flagged : Step Machine → Step Flagged
+  flagged = flag_by p (with_flags (machine r mem) flags) q
 
-  module _ {x : Acted} {m : List ℕ} (e : replied x m ≡ access_of p r mem rom q) where
-    pub follows : {n : ℕ} {same : Bool} {after : List ℕ} → x.number ≡ 0 → n ≡ stores_asked p r q → same ≡ same_display r.display x.registers.display
-        → length m ≡ length mem → after ≡ marks_of p r.display m r.bus.pointer n (not same) flags
-        → followed x m after ≡ followed_as (step_of p rom (machine r mem) q)
-    follows {n} {same} {after} z f g long marks =
-        go (step_of p rom (machine r mem) q) (stepped e) (step-stores p rom (machine r mem) whole-memory q) (step-number p rom (machine r mem) q.kind q.byte)
-      where
-        h : after ≡ marked_of p r.display m r.bus.pointer n (not same) flags
-        h = marks ∙ marked-is m n (not same) long
+  module _ {n : ℕ} {altered : Bool} (s : Registers) (m after : List ℕ) (asked : n ≡ stores_asked p r q) (differ : altered ≡ not (same_display r.display s.display))
+      (long : length m ≡ length mem) (marks : after ≡ marks_of p r.display m r.bus.pointer n altered flags) where
+    after-is : Stored r.bus.pointer (stores_of p r q) mem m → after ≡ flags_after p (machine r mem) q (machine s m) flags
+    after-is st =
+        let number : n ≡ stores_of p r q = asked ∙ ap (λ (t : Bool). cond t (stores_of p r q) 0) k.panel in
+        marks ∙ marked-is m n altered long
+        ∙ (λ i. marked_of p r.display m r.bus.pointer (number i) (differ i) flags)
+        ∙ sym (flags-after-is p (machine r mem) q (machine s m) flags st)
 
-        number : n ≡ stores_of p r q
-        number = f ∙ ap (λ (t : Bool). cond t (stores_of p r q) 0) k.panel
+    -- an accepted pair
+    pub follows : (answer : Option ℕ) → outcome (Ok answer) s m ≡ entered_of p r mem rom q → flag_outcome (Ok answer) s m after ≡ flagged (step_of p rom (machine r mem) q)
+    follows None e =
+        let w = stepped e in
+        let st = subst (Leaves (λ t. Stored r.bus.pointer (stores_of p r q) mem t.memory)) (sym w) (step-stores p rom (machine r mem) whole-memory q) in
+        ap (λ (l : List ℕ). done (with_flags (machine s m) l)) (after-is st) ∙ ap flagged w
+    follows (Some b) e =
+        let w = stepped e in
+        let st = subst (Leaves (λ t. Stored r.bus.pointer (stores_of p r q) mem t.memory)) (sym w) (step-stores p rom (machine r mem) whole-memory q) in
+        ap (λ (l : List ℕ). answered (with_flags (machine s m) l) b) (after-is st) ∙ ap flagged w
 
-        marked : (x : Acted) (m : List ℕ) (t : Machine) → same ≡ same_display r.display x.registers.display → after ≡ marked_of p r.display m r.bus.pointer n (not same) flags
-            → x.registers ≡ t.registers → m ≡ t.memory → Stored r.bus.pointer (stores_of p r q) mem t.memory → after ≡ flags_after p (machine r mem) q t flags
-        marked x m t g h a b st =
-            h
-            ∙ (λ i. marked_of p r.display (b i) r.bus.pointer (number i) (not ((g ∙ ap (λ (y : Registers). same_display r.display y.display) a) i)) flags)
-            ∙ sym (flags-after-is p (machine r mem) q t flags st)
+    -- a read leaves memory and flags
+    pub still : (answer : Option ℕ) → outcome (Ok answer) s m ≡ entered_of p r mem rom q → IfSome answer (λ b. m ≡ mem) → IfSome answer (λ b. (m ≡ mem) × (after ≡ flags))
+    still None e h = tt
+    still (Some b) e h =
+        let w = subst (Still (machine r mem) (stores_of p r q)) (sym (stepped e)) (stills p rom (machine r mem) q) in
+        let none : n ≡ 0 = asked ∙ ap (λ (t : Bool). cond t (stores_of p r q) 0) k.panel ∙ w.1 in
+        let alike : altered ≡ false = differ ∙ ap (λ (d : Display). not (same_display r.display d)) w.0 ∙ ap not (same-own r.display) in
+        (h, marks ∙ marked-is m n altered long ∙ (λ i. marked_of p r.display m r.bus.pointer (none i) (alike i) flags) ∙ sym (marks-none p r.display m r.bus.pointer 0 false flags k.rows refl))
 
-        go : (o : Step Machine) → replied x m ≡ acted_of r mem o → Leaves (λ t. Stored r.bus.pointer (stores_of p r q) mem t.memory) o
-            → ((j : ℕ) → o ≡ refused j → (3 ≤ j) × (j ≤ 7)) → followed x m after ≡ followed_as o
-        go (done t) w st small =
-            λ i. followed (w i).acted (w i).memory (marked x m t g h (λ j. (w j).acted.registers) (λ j. (w j).memory) st i)
-        go (answered t b) w st small =
-            λ i. followed (w i).acted (w i).memory (marked x m t g h (λ j. (w j).acted.registers) (λ j. (w j).memory) st i)
-        go (refused j) w st small =
-            let y : x.number ≡ j = λ i. (w i).acted.number in
-            let s = small j refl in
-            absurd (let w : ⊥ = omega (arith, s.0, y, z) in w)
-
-    -- a refused pair leaves the flags as they were
-    pub left_alone : (x.number ≡ 0 → ⊥) → followed x m flags ≡ followed_as (step_of p rom (machine r mem) q)
-    left_alone z = go (step_of p rom (machine r mem) q) (stepped e)
-      where
-        go : (o : Step Machine) → replied x m ≡ acted_of r mem o → followed x m flags ≡ followed_as o
-        go (done t) w = absurd (z (λ i. (w i).acted.number))
-        go (answered t b) w = absurd (z (λ i. (w i).acted.number))
-        go (refused j) w = λ i. followed (w i).acted (w i).memory flags
-
--- the door
-module _ (p : Panel) (r : Registers) (mem rom : List ℕ) (q : Pair) (flags : List ℕ) {a b : Bool} (i : a ≡ valid_panel p) (j : b ≡ valid_registers r) where
-  abbrev doored : Bool → Bool → Followed
-  doored v f = cond v (cond f (followed_of r mem flags (flag_step p rom (with_flags (machine r mem) flags) q)) (followed_by 2 r 0 mem flags)) (followed_by 1 r 0 mem flags)
-
-  doors : (v f : Bool) → (a && b) ≡ v → (lent_lengths mem rom && flags_fit p flags) ≡ f → doored v f ≡ follow_of p r mem rom q flags
-  unfolding follow_of
-  doors v f e h = sym (λ k. doored ((sym (λ t. i t && j t) ∙ e) k) (h k))
-
-  pub door-1 : {x : Acted} → (a && b) ≡ false → x ≡ record { number = 1; place = 0; registers = r; answer = 0 } → followed x mem flags ≡ follow_of p r mem rom q flags
-  door-1 e h = ap (λ (y : Acted). followed y mem flags) h ∙ doors false (lent_lengths mem rom && flags_fit p flags) e refl
-
-  pub door-2 : {x : Acted} → (a && b) ≡ true → (lent_lengths mem rom && flags_fit p flags) ≡ false → x ≡ record { number = 2; place = 0; registers = r; answer = 0 }
-      → followed x mem flags ≡ follow_of p r mem rom q flags
-  door-2 e f h = ap (λ (y : Acted). followed y mem flags) h ∙ doors true false e f
-
-  pub door-0 : {x : Acted} {m l : List ℕ} → (a && b) ≡ true → (lent_lengths mem rom && flags_fit p flags) ≡ true
-      → followed x m l ≡ followed_of r mem flags (flag_step p rom (with_flags (machine r mem) flags) q) → followed x m l ≡ follow_of p r mem rom q flags
-  door-0 e f h = h ∙ doors true true e f
-
-  pub door-opens : (a && b) ≡ true → (lent_lengths mem rom && flags_fit p flags) ≡ true → Following p r mem rom flags
-  door-opens e f =
-      record {
-        panel = sym i ∙ both_left a b e;
-        state = sym j ∙ both_right a b e;
-        lent = both_left (lent_lengths mem rom) (flags_fit p flags) f;
-        rows = eqb-true (length flags) (8 * p.lines) (both_right (lent_lengths mem rom) (flags_fit p flags) f);
-      }
-
-  pub few-rows : (a && b) ≡ true → 8 * p.lines ≤ 256
-  few-rows e = let v = panelled p (sym i ∙ both_left a b e) in omega (arith, v.lines)
+  -- a refused pair
+  pub left_alone : (e : Refusal) (s : Registers) (m : List ℕ) → outcome (Err e) s m ≡ entered_of p r mem rom q → flag_outcome (Err e) s m flags ≡ flagged (step_of p rom (machine r mem) q)
+  left_alone e s m h = ap flagged (stepped h)

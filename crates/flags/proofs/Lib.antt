@@ -1,3 +1,5 @@
+pub mod Derived
 pub mod Follows
 pub mod Refreshes
 pub mod Rights
+pub mod Stills

@@ -7,5 +7,5 @@ pub use Rattle.state.specs.declared.registers.Combination.{Combination}
 pub use Rattle.state.specs.declared.registers.Combination.TheVariants.{Or, Exor, And, Attribute}
 pub use Rattle.state.specs.declared.registers.Display.{Display}
 pub use Rattle.state.specs.declared.registers.Registers.{Registers}
-pub use Rattle.state.specs.declared.reply.Reply.{Reply}
-pub use Rattle.state.specs.declared.reply.Acted.{Acted}
+pub use Rattle.state.specs.Replies.{Reply}
+pub use Rattle.state.specs.Replies.{Acted}

@@ -1,85 +1,80 @@
 // One access that keeps the flags, and their start.
-ghost use Rattle.std.specs.Prelude.{◌≡◌, length};
+ghost use Rattle.std.specs.Prelude.{◌≡◌, length, OnErr, IfOk, IfSome};
 ghost use Rattle.effects.specs.Machine.{machine};
 ghost use Rattle.flags.specs.Flags.{all_set, with_flags, flag_step};
-ghost use Rattle.flags.specs.Follow.{followed, followed_of, follow_of};
+ghost use Rattle.single.specs.Outcome.{acted};
+ghost use Rattle.flags.specs.Follow.{followed, follow_of};
+ghost use Rattle.flags.specs.Outcome.{flag_outcome, flag_entered_of};
 ghost use Rattle.flags.specs.Ready.{Following};
 
-use crate::same::same;
+use single::step;
 use state::panel::Panel;
+use state::refusal::Refusal;
 use state::registers::Registers;
-use state::reply::Acted;
 use stores::stores::stores;
 use touch::touch::mark;
 
-// All set.
+/// Sets every flag, one for each dot row: 1.
 pub fn start(flags: &mut [u8])
     ensures { flags.new ≡ all_set (length flags.old) }
 {
-    for row in 0..flags.len() {
-        flags[row] = 1;
-    }
+    flags.fill(1);
 }
 
 // A pair on what is known to be valid; a refused one leaves the flags as they were.
 pub(crate) fn follow(
+    registers: &mut Registers,
     panel: Panel,
-    registers: Registers,
-    mem: &mut [u8],
+    memory: &mut [u8],
     rom: &[u8],
     kind: u8,
     byte: u8,
     flags: &mut [u8],
-) -> Acted
-    requires { Following panel registers mem.old rom.now flags.old }
-    ensures { followed result mem.new flags.new ≡ followed_of registers mem.old flags.old (flag_step panel rom.now (with_flags (machine registers mem.old) flags.old) (record { kind = kind; byte = byte })) }
+) -> Result<Option<u8>, Refusal>
+    requires { Following panel registers.old memory.old rom.now flags.old }
+    ensures step { flag_outcome result registers.new memory.new flags.new ≡ flag_step panel rom.now (with_flags (machine registers.old memory.old) flags.old) (record { kind = kind; byte = byte }) }
+    ensures err { OnErr result ((registers.new ≡ registers.old) × ((memory.new ≡ memory.old) × (flags.new ≡ flags.old))) }
+    ensures read { IfOk result (λ answer. IfSome answer (λ _. (memory.new ≡ memory.old) × (flags.new ≡ flags.old))) }
 {
-    let acted = single::access::access(panel, registers, mem, rom, kind, byte);
-    let number = acted.number;
-    if number == 0 {
-        let before = registers.display;
-        let bus = registers.bus;
-        let after = acted.registers;
-        let n = stores(panel, registers, kind, byte);
-        let altered = !same(before, after.display);
-        mark(panel, before, mem, bus.pointer, n, altered, flags);
-        return acted;
-    }
-    acted
+    let before = *registers;
+    let answer = step::access(registers, panel, memory, rom, kind, byte)?;
+    let n = stores(panel, before, kind, byte);
+    let altered = before.display != registers.display;
+    mark(
+        panel,
+        before.display,
+        memory,
+        before.bus.pointer,
+        n,
+        altered,
+        flags,
+    );
+    Ok(answer)
 }
 
-fn refused(number: u8, registers: Registers) -> Acted
-    ensures { result ≡ record { number = number; place = 0; registers = registers; answer = 0 } }
-{
-    Acted {
-        number,
-        place: 0,
-        registers,
-        answer: 0,
-    }
-}
-
-// One access of anything: the tests at the door, then the pair.
+/// One access of anything that keeps the flags, one of 8 · lines for each dot row: the tests at the door, then the pair. What a read gives is
+/// `Some`, and a read leaves memory and flags. A refused pair changes nothing: `Invalid` panel or registers, then `WrongLength` of memory (65,536), ROM (1,024) or flags, then the
+/// refusals of a pair.
+#[tactic(auto, unfolding(crate::specs::Outcome::flag_entered_of, crate::specs::Follow::follow_of))]
 pub fn access(
+    registers: &mut Registers,
     panel: Panel,
-    registers: Registers,
-    mem: &mut [u8],
+    memory: &mut [u8],
     rom: &[u8],
     kind: u8,
     byte: u8,
     flags: &mut [u8],
-) -> Acted
-    ensures { followed result mem.new flags.new ≡ follow_of panel registers mem.old rom.now (record { kind = kind; byte = byte }) flags.old }
+) -> Result<Option<u8>, Refusal>
+    ensures followed { followed (acted result registers.new) memory.new flags.new ≡ follow_of panel registers.old memory.old rom.now (record { kind = kind; byte = byte }) flags.old }
+    ensures step { flag_outcome result registers.new memory.new flags.new ≡ flag_entered_of panel registers.old memory.old rom.now (record { kind = kind; byte = byte }) flags.old }
+    ensures err { OnErr result ((registers.new ≡ registers.old) × ((memory.new ≡ memory.old) × (flags.new ≡ flags.old))) }
+    ensures read { IfOk result (λ answer. IfSome answer (λ _. (memory.new ≡ memory.old) × (flags.new ≡ flags.old))) }
 {
-    let valid = panel.valid() & registers.valid();
-    if valid {
-        let fits = (mem.len() == 65536) & (rom.len() == 1024) & (flags.len() == 8 * panel.lines);
-        if fits {
-            follow(panel, registers, mem, rom, kind, byte, flags)
-        } else {
-            refused(2, registers)
-        }
-    } else {
-        refused(1, registers)
+    if !(panel.valid() & registers.valid()) {
+        return Err(Refusal::Invalid);
     }
+    if !((memory.len() == 65536) & (rom.len() == 1024) & (flags.len() == 8 * panel.lines)) {
+        return Err(Refusal::WrongLength);
+    }
+    follow(registers, panel, memory, rom, kind, byte, flags)
 }

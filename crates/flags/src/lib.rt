@@ -3,4 +3,3 @@
 
 pub mod follow;
 pub mod refresh;
-mod same;

@@ -6,10 +6,12 @@ ghost use Rattle.following.specs.Following.{follow_end, follow_bytes, follow_run
 use flags::follow::access;
 use flags::refresh::refresh;
 use ground::bytes::word;
-use image::door::{Entry, count_on, enter, keep, marked};
+use image::door::{count_on, enter, keep, marked};
+use state::reply::number;
 use watch::run::run;
 
 // One access that keeps the flags: the number in the low byte, the byte read in the high one.
+#[tactic(auto, unfolding(crate::specs::Following::follow_bytes))]
 #[unsafe(no_mangle)]
 pub extern "C" fn t6963c_follow(
     columns: usize,
@@ -27,17 +29,25 @@ pub extern "C" fn t6963c_follow(
 {
     let panel = marked(columns, lines, width, dual);
     match enter(panel, true, registers) {
-        Entry::State(state) => {
-            let acted = access(panel, state, memory, rom, kind, byte, rows);
-            let after = acted.registers;
-            keep(acted.number, after, registers);
-            word(acted.number, acted.answer)
+        Ok(state) => {
+            let mut after = state;
+            match access(&mut after, panel, memory, rom, kind, byte, rows) {
+                Ok(answer) => {
+                    keep(0, after, registers);
+                    word(0, answer.unwrap_or(0))
+                }
+                Err(refusal) => {
+                    keep(refusal.number(), after, registers);
+                    word(refusal.number(), 0)
+                }
+            }
         }
-        Entry::Refused(number) => word(number, 0),
+        Err(refusal) => word(refusal.number(), 0),
     }
 }
 
 // At most `limit` pairs of a log, refused ones skipped and listed, the flags kept: the number. `counts` becomes place, pairs taken, answers, entries.
+#[tactic(auto, unfolding(crate::specs::Following::follow_run_bytes))]
 #[unsafe(no_mangle)]
 pub extern "C" fn t6963c_follow_run(
     columns: usize,
@@ -59,7 +69,7 @@ pub extern "C" fn t6963c_follow_run(
     let panel = marked(columns, lines, width, dual);
     let four = counts.len() == 4;
     match enter(panel, four, registers) {
-        Entry::State(state) => {
+        Ok(state) => {
             let gone = run(panel, state, memory, rom, log, limit, answers, skips, rows);
             let ran = gone.ran;
             let after = ran.registers;
@@ -74,11 +84,12 @@ pub extern "C" fn t6963c_follow_run(
             );
             ran.number
         }
-        Entry::Refused(number) => number,
+        Err(refusal) => refusal.number(),
     }
 }
 
 // The flagged rows painted and the flags cleared: the number.
+#[tactic(auto, unfolding(crate::specs::Following::refresh_bytes))]
 #[unsafe(no_mangle)]
 pub extern "C" fn t6963c_refresh(
     columns: usize,
@@ -95,10 +106,7 @@ pub extern "C" fn t6963c_refresh(
 {
     let panel = marked(columns, lines, width, dual);
     match enter(panel, true, registers) {
-        Entry::State(state) => {
-            let reply = refresh(panel, state, memory, rom, frame, rows);
-            reply.number
-        }
-        Entry::Refused(number) => number,
+        Ok(state) => number(refresh(panel, state, memory, rom, frame, rows)),
+        Err(refusal) => refusal.number(),
     }
 }

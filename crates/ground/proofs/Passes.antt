@@ -1,6 +1,7 @@
 -- A list given to another, or filled while an address goes on, round.
-use Rattle.std.proofs.Common.{◌≡◌, ℕ, zero, suc, ◌+◌, ◌*◌, ◌%◌, ◌^◌, ◌<◌, ◌≤◌, min, Bool, true, false, cond, ◌&&◌, eqb, ltb, List, [], ◌∷◌, length, get_or, set, sym, refl, ap, ◌∙◌, arith, ext_get_or, eq-eqb, ne_eqb}
-use lib.ListN.{get_or-eq_default}
+use Rattle.std.proofs.Common.{◌≡◌, ℕ, zero, suc, ◌+◌, ◌*◌, ◌%◌, ◌^◌, ◌<◌, ◌≤◌, min, Bool, true, false, cond, ◌&&◌, eqb, ltb, List, [], ◌∷◌, ◌++◌, length, get_or, take, drop, get_or-take, set, sym, refl, ap, ◌∙◌, arith, ext_get_or, eq-eqb, ne_eqb}
+use lib.ListN.{get_or-eq_default, replicate, length-replicate, get_or-replicate}
+use lib.Seq.{length-take-le}
 use Rattle.ground.specs.Lists.{build, round_byte, read_round, looked_up, given_to}
 use Rattle.ground.proofs.Lists.{build-length, build-at, build-cong}
 use Rattle.ground.proofs.Filling.{Filled, none_yet, one_more, unwritten, rest-same}
@@ -16,6 +17,19 @@ module _ (from to : List ℕ) where
   pub given : {l : List ℕ} {n m : ℕ} → m ≡ min (length from) (length to) → Filled (λ j. get_or from j (get_or to j 0)) to l n → m ≤ n → l ≡ given_to from to
   unfolding given_to
   given {l} {n} e k h = rest-same (λ j. get_or from j (get_or to j 0)) to k (λ i a b. get_or-eq_default from (get_or to i 0) (omega (arith, e)))
+
+  -- the shorter one's length copied over the front
+  pub given-cut : {l : List ℕ} {m : ℕ} → m ≡ min (length from) (length to) → l ≡ take m from → l ++ drop m to ≡ given_to from to
+  given-cut {l} {m} e k =
+      let long : length (take m from) ≡ m = length-take-le m from (omega (arith, e)) in
+      given e
+      (record {
+        inside = omega (arith, e);
+        holds = ap (λ (x : List ℕ). x ++ drop m to)
+            (k ∙ ext_get_or 0 (take m from) (build m (λ j. get_or from j (get_or to j 0))) (long ∙ sym (build-length m (λ j. get_or from j (get_or to j 0))))
+            (λ i h. get_or-take m from i 0 (omega (arith, long)) ∙ inside from i 0 (get_or to i 0) (omega (arith, long, e)) ∙ sym (build-at m (λ j. get_or from j (get_or to j 0)) i 0 (omega (arith, long)))));
+      })
+      (omega arith)
 
   pub given-byte : {n : ℕ} → n < length from → get_or from n 0 ≡ get_or from n (get_or to n 0)
   given-byte {n} h = inside from n 0 (get_or to n 0) h
@@ -82,3 +96,9 @@ module _ (w : ℕ) (mem : List ℕ) (start : ℕ) (out : List ℕ) where
   pub round-unread : (length mem ≡ 65536 → ⊥) → read_round w mem start out ≡ out
   unfolding read_round
   round-unread e = ap (λ (t : Bool). cond t (build (length out) (round_byte w mem start)) out) (ne_eqb (length mem) 65536 e)
+
+-- one byte throughout
+pub replicate-built : (n v : ℕ) → replicate n v ≡ build n (λ j. v)
+replicate-built n v =
+    ext_get_or 0 (replicate n v) (build n (λ j. v)) (length-replicate n v ∙ sym (build-length n (λ j. v)))
+    (λ i h. let k : i < n = omega (arith, length-replicate n v) in get_or-replicate n i v 0 k ∙ sym (build-at n (λ j. v) i 0 k))

@@ -16,7 +16,7 @@ pub fn bit(byte: u8, at: usize) -> u8
 pub fn word(low: u8, high: u8) -> u16
     ensures { result ≡ word_of low high }
 {
-    low as u16 + 256 * (high as u16)
+    u16::from_le_bytes([low, high])
 }
 
 // A byte with a bit set or reset, the bit counted modulo 8.
@@ -44,8 +44,9 @@ pub fn low(width: usize, byte: u8) -> u8
     byte & full(width)
 }
 
+// a function, though it is `min`: docs/PROMISES.md names it
 pub fn lesser(a: usize, b: usize) -> usize
     ensures { result ≡ min a b }
 {
-    if a < b { a } else { b }
+    a.min(b)
 }

@@ -6,10 +6,7 @@ ghost use Rattle.ground.specs.Packing.{row_bytes, row_in, Packable, pack_of};
 fn six(cells: &[u8], c: usize) -> u8
     ensures { result ≡ slice_index cells.now c % 64 }
 {
-    if cells.len() <= c {
-        return 0;
-    }
-    cells[c] % 64
+    cells.get(c).copied().unwrap_or(0) % 64
 }
 
 // Cells of six dots: the dots held from one cell and the first of the next are a byte. Four cells are three bytes, and none is held; then
@@ -21,6 +18,7 @@ fn pack_sixes(cells: &[u8], out: &mut [u8])
 {
     let mut c: usize = 0;
     let mut at: usize = 0;
+    // by index: four cells go into three bytes, and behind `chunks_exact_mut` a proof knows nothing of what is written
     while c + 4 <= cells.len() {
         let mut held = cells[c] % 64;
         let two = cells[c + 1] % 64;
@@ -54,9 +52,7 @@ fn pack_eights(cells: &[u8], out: &mut [u8])
     requires { length out.old ≡ row_bytes (length cells.now) 8 }
     ensures { out.new ≡ row_in 8 cells.now }
 {
-    for at in 0..out.len() {
-        out[at] = cells[at];
-    }
+    out.copy_from_slice(cells);
 }
 
 fn pack_row(width: usize, cells: &[u8], out: &mut [u8])
@@ -76,6 +72,7 @@ pub fn pack(width: usize, cells: &[u8], out: &mut [u8])
     ensures { out.new ≡ pack_of width cells.now out.old }
 {
     if ((width == 6) | (width == 8)) & (cells.len() <= 80) {
+        // no `div_ceil`: as the definition `row_bytes` has it
         let bytes = (cells.len() * width + 7) / 8;
         if out.len() == bytes {
             pack_row(width, cells, out);

@@ -8,9 +8,7 @@ use super::bytes::{lesser, low};
 pub fn clear(list: &mut [u8])
     ensures { list.new ≡ build (length list.old) (λ j. 0) }
 {
-    for j in 0..list.len() {
-        list[j] = 0;
-    }
+    list.fill(0);
 }
 
 // The front of a list over that of another, as far as both go.
@@ -18,9 +16,7 @@ pub fn give(from: &[u8], to: &mut [u8])
     ensures { to.new ≡ given_to from.now to.old }
 {
     let both = lesser(from.len(), to.len());
-    for j in 0..both {
-        to[j] = from[j];
-    }
+    to[..both].copy_from_slice(&from[..both]);
 }
 
 // The low w bits of a memory's bytes from an address on, round, as many as are asked for; a memory of another length is not read.
@@ -29,9 +25,9 @@ pub fn read_round(width: usize, mem: &[u8], start: u16, out: &mut [u8])
 {
     if mem.len() == 65536 {
         let mut at = start;
-        for j in 0..out.len() {
-            out[j] = low(width, mem[at as usize]);
-            at = std::num::wrapping_add_u16(at, 1);
+        for byte in out.iter_mut() {
+            *byte = low(width, mem[at as usize]);
+            at = at.wrapping_add(1);
         }
     }
 }
@@ -41,9 +37,8 @@ pub fn look_up(width: usize, table: &[u8], v: usize, codes: &mut [u8])
     ensures { codes.new ≡ looked_up width table.now v codes.old }
 {
     if (table.len() == 2048) & (v < 8) {
-        for j in 0..codes.len() {
-            let code = codes[j] as usize;
-            codes[j] = low(width, table[8 * code + v]);
+        for code in codes.iter_mut() {
+            *code = low(width, table[8 * *code as usize + v]);
         }
     }
 }

@@ -7,15 +7,19 @@ use native.Mathlib.Omega.{arith}
 use lib.Dec.{leb, eqb}
 use lib.ListN.{length, get_or}
 use lib.Seq.{ext_get_or}
+use mir.Val.{bool_byte}
 use borrow.Author.Tests.{leb-true, eq-eqb, ne_eqb}
 use Rattle.ground.specs.Bytes.{word_of}
-use Rattle.ground.specs.Lists.{build, given_to}
+use Rattle.ground.specs.Lists.{build}
 use Rattle.ground.proofs.Lists.{build-length, build-at}
-use Rattle.ground.proofs.Passes.{given-whole}
 use Rattle.ground.proofs.Tests.{both_left, both_right}
 use Rattle.image.specs.Types.{Combination, Or, Exor, And, Attribute, Auto, Off, Write, Read, Registers}
-use Rattle.image.specs.Image.{flag_byte, combination_byte, combination_in, auto_byte, auto_of, bytes_of, replaced, readable, display_of, bus_of, state_of, is_image, image_state}
-use Rattle.state.specs.State.{reset_registers}
+use Rattle.image.specs.Image.{flag_byte, combination_byte, combination_in, auto_byte, auto_of, bytes_of, replaced, readable, display_of, bus_of, state_of}
+
+-- std's byte of a flag
+pub flagged : {n : ℕ} (b : Bool) → n ≡ bool_byte b → n ≡ flag_byte b
+flagged true e = e
+flagged false e = e
 
 -- a list is built of its elements
 listed : (n : ℕ) (l : List ℕ) → length l ≡ n → build n (λ i. get_or l i 0) ≡ l
@@ -56,28 +60,8 @@ replaced-other new old e = sym (ap (λ (t : Bool). cond t new old) (ne_eqb (leng
 
 -- written, or not
 module _ (r : Registers) (old : List ℕ) where
-  pub written : {l out : List ℕ} → length old ≡ 25 → l ≡ bytes_of r → out ≡ given_to l old → out ≡ replaced (bytes_of r) old
-  written {l} e h k =
-      k ∙ given-whole l old (ap length h ∙ bytes-length r ∙ sym e) ∙ h ∙ replaced-same (bytes_of r) old (e ∙ sym (bytes-length r))
-
   pub not_written : (length old ≡ 25 → ⊥) → old ≡ replaced (bytes_of r) old
   not_written e = replaced-other (bytes_of r) old (λ h. e (h ∙ bytes-length r))
-
--- 25 bytes, and others
-module _ (b : List ℕ) where
-  pub is-image : length b ≡ 25 → is_image b ≡ readable b
-  is-image e = ap (λ (t : Bool). t && readable b) (eq-eqb (length b) 25 e)
-
-  pub no-image : (length b ≡ 25 → ⊥) → is_image b ≡ false
-  no-image e = ap (λ (t : Bool). t && readable b) (ne_eqb (length b) 25 e)
-
-  pub image-state : length b ≡ 25 → image_state b ≡ state_of b
-  unfolding image_state
-  image-state e = ap (λ (t : Bool). cond t (state_of b) reset_registers) (eq-eqb (length b) 25 e)
-
-  pub image-reset : (length b ≡ 25 → ⊥) → image_state b ≡ reset_registers
-  unfolding image_state
-  image-reset e = ap (λ (t : Bool). cond t (state_of b) reset_registers) (ne_eqb (length b) 25 e)
 
 pub combination-back : (k : Combination) → combination_in (combination_byte k) ≡ k
 combination-back Or = refl

@@ -1,6 +1,7 @@
 -- What is refused before the controller is asked, and what is written back after.
 use Rattle.std.specs.Prelude.{ℕ, Bool, cond, ◌&&◌, ◌||◌, List, [], ◌∷◌, leb, eqb, length}
 use Rattle.state.specs.State.{valid_panel, valid_registers}
+pub use Rattle.image.specs.Types.{entry}
 use Rattle.image.specs.Types.{Panel, Registers, Entry, State, Refused}
 use Rattle.image.specs.Image.{bytes_of, replaced, readable, state_of}
 

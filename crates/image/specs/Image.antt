@@ -1,5 +1,6 @@
 -- The registers as bytes, in document 01's order, words low byte first.
 use Rattle.std.specs.Prelude.{ℕ, ◌/◌, ◌%◌, Bool, cond, ◌&&◌, List, [], ◌∷◌, leb, eqb, length, get_or}
+pub use Rattle.state.specs.Codes.{combination_byte, auto_byte}
 use Rattle.state.specs.State.{reset_registers}
 use Rattle.ground.specs.Bytes.{word_of}
 use Rattle.image.specs.Types.{Combination, Or, Exor, And, Attribute, Auto, Off, Write, Read, Display, Bus, Registers}
@@ -7,21 +8,8 @@ use Rattle.image.specs.Types.{Combination, Or, Exor, And, Attribute, Auto, Off, 
 abbrev pub flag_byte : Bool → ℕ
 flag_byte on = cond on 1 0
 
--- 0 OR, 1 EXOR, 2 AND, 3 attribute
-abbrev pub combination_byte : Combination → ℕ
-combination_byte Or = 0
-combination_byte Exor = 1
-combination_byte And = 2
-combination_byte Attribute = 3
-
 abbrev pub combination_in : ℕ → Combination
 combination_in n = cond (eqb n 0) Or (cond (eqb n 1) Exor (cond (eqb n 2) And Attribute))
-
--- 0 off, 1 write, 2 read
-abbrev pub auto_byte : Auto → ℕ
-auto_byte Off = 0
-auto_byte Write = 1
-auto_byte Read = 2
 
 abbrev pub auto_of : ℕ → Auto
 auto_of n = cond (eqb n 0) Off (cond (eqb n 1) Write Read)

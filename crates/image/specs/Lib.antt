@@ -1,3 +1,4 @@
+pub mod Entries
 pub mod Types
 pub mod Image
 pub mod Door

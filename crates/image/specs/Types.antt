@@ -9,5 +9,4 @@ pub use Rattle.state.specs.declared.registers.Auto.TheVariants.{Off, Write, Read
 pub use Rattle.state.specs.declared.registers.Pending.{Pending}
 pub use Rattle.state.specs.declared.registers.Bus.{Bus}
 pub use Rattle.state.specs.declared.registers.Registers.{Registers}
-pub use Rattle.image.specs.declared.door.Entry.{Entry}
-pub use Rattle.image.specs.declared.door.Entry.TheVariants.{State, Refused}
+pub use Rattle.image.specs.Entries.{Entry, State, Refused, entry}

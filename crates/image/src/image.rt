@@ -1,39 +1,11 @@
 // The registers as 25 bytes, and back.
 ghost use Rattle.std.specs.Prelude.{◌≡◌, length};
-ghost use Rattle.image.specs.Image.{flag_byte, combination_byte, auto_byte, bytes_of, replaced, combination_in, auto_of, is_image, display_of, bus_of, image_state};
+ghost use Rattle.image.specs.Image.{bytes_of, replaced, combination_in, auto_of, is_image, display_of, bus_of, image_state};
 
 use ground::bytes::word;
-use ground::stretches::give;
 use state::registers::{
     Auto, Bus, Combination, Cursor, Display, DisplayBits, Pending, Plane, Registers,
 };
-
-pub(crate) fn flag_byte(flag: bool) -> u8
-    ensures { result ≡ flag_byte flag }
-{
-    if flag { 1 } else { 0 }
-}
-
-pub(crate) fn combination_byte(combination: Combination) -> u8
-    ensures { result ≡ combination_byte combination }
-{
-    match combination {
-        Combination::Or => 0,
-        Combination::Exor => 1,
-        Combination::And => 2,
-        Combination::Attribute => 3,
-    }
-}
-
-pub(crate) fn auto_byte(auto: Auto) -> u8
-    ensures { result ≡ auto_byte auto }
-{
-    match auto {
-        Auto::Off => 0,
-        Auto::Write => 1,
-        Auto::Read => 2,
-    }
-}
 
 fn image(registers: Registers) -> [u8; 25]
     ensures { result ≡ bytes_of registers }
@@ -42,20 +14,21 @@ fn image(registers: Registers) -> [u8; 25]
     let bus = registers.bus;
     let bits = display.bits;
     let mode = display.combination;
-    let combination = combination_byte(mode);
-    let external = flag_byte(display.external);
-    let graphic = flag_byte(bits.graphic);
-    let text = flag_byte(bits.text);
-    let cursor = flag_byte(bits.cursor);
-    let blink = flag_byte(bits.blink);
+    let combination = u8::from(mode);
+    let external = u8::from(display.external);
+    let graphic = u8::from(bits.graphic);
+    let text = u8::from(bits.text);
+    let cursor = u8::from(bits.cursor);
+    let blink = u8::from(bits.blink);
     let running = bus.auto;
-    let auto = auto_byte(running);
-    let error = flag_byte(bus.error);
-    let phase = flag_byte(display.phase);
+    let auto = u8::from(running);
+    let error = u8::from(bus.error);
+    let phase = u8::from(display.phase);
     [
         display.cursor.x,
         display.cursor.y,
         display.offset,
+        // low and high byte by `%` and `/`, here and below, as the definition `bytes_of` has them
         (bus.pointer % 256) as u8,
         (bus.pointer / 256) as u8,
         (display.text.home % 256) as u8,
@@ -81,17 +54,17 @@ fn image(registers: Registers) -> [u8; 25]
     ]
 }
 
-// The registers written over a buffer of their length; another stays.
+/// The registers written over a buffer of their length, 25 bytes; another stays.
 pub fn encode(registers: Registers, out: &mut [u8])
     ensures { out.new ≡ replaced (bytes_of registers) out.old }
 {
     if out.len() == 25 {
-        let bytes = image(registers);
-        give(&bytes, out);
+        out.copy_from_slice(&image(registers));
     }
 }
 
-// Whether there are 25 bytes, and each that stands for a flag, a combination or an auto mode is one.
+/// Whether there are 25 bytes, and each that stands for a flag, a combination or an auto mode is one.
+// kept test by test: each byte has a bound of its own, as in the definition
 pub fn is_readable(bytes: &[u8]) -> bool
     ensures { result ≡ is_image bytes.now }
 {
@@ -109,6 +82,7 @@ pub fn is_readable(bytes: &[u8]) -> bool
         & (bytes[24] <= 1)
 }
 
+// kept, here and below: `decode`, which docs/PROMISES.md names, reads any bytes, and a TryFrom would refuse some
 fn combination_of(byte: u8) -> Combination
     ensures { result ≡ combination_in byte }
 {
@@ -130,6 +104,7 @@ fn auto_of(byte: u8) -> Auto
     }
 }
 
+#[tactic(auto, unfolding(crate::specs::Image::display_of))]
 fn display_of(bytes: &[u8]) -> Display
     requires { length bytes.now ≡ 25 }
     ensures { result ≡ display_of bytes.now }
@@ -164,6 +139,7 @@ fn display_of(bytes: &[u8]) -> Display
     }
 }
 
+#[tactic(auto, unfolding(crate::specs::Image::bus_of))]
 fn bus_of(bytes: &[u8]) -> Bus
     requires { length bytes.now ≡ 25 }
     ensures { result ≡ bus_of bytes.now }
@@ -182,7 +158,8 @@ fn bus_of(bytes: &[u8]) -> Bus
     }
 }
 
-// The registers that 25 bytes stand for, the reset state where there are not 25.
+/// The registers that 25 bytes stand for, the reset state where there are not 25.
+#[tactic(auto, unfolding(crate::specs::Image::image_state))]
 pub fn decode(bytes: &[u8]) -> Registers
     ensures { result ≡ image_state bytes.now }
 {

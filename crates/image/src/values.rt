@@ -2,17 +2,17 @@
 ghost use Rattle.std.specs.Prelude.{◌≡◌};
 ghost use Rattle.image.specs.Registered.{bits_number, pending_number, register_values};
 
-use super::image::{auto_byte, combination_byte, flag_byte};
 use state::registers::{DisplayBits, Pending, Registers};
 
+// kept, and the next: both types are of other crates, so that no From can stand here
 fn bits_number(bits: DisplayBits) -> usize
     ensures { result ≡ bits_number bits }
 {
-    let graphic = flag_byte(bits.graphic);
-    let text = flag_byte(bits.text);
-    let cursor = flag_byte(bits.cursor);
-    let blink = flag_byte(bits.blink);
-    8 * (graphic as usize) + 4 * (text as usize) + 2 * (cursor as usize) + blink as usize
+    let graphic = usize::from(bits.graphic);
+    let text = usize::from(bits.text);
+    let cursor = usize::from(bits.cursor);
+    let blink = usize::from(bits.blink);
+    8 * graphic + 4 * text + 2 * cursor + blink
 }
 
 fn pending_number(pending: Pending) -> usize
@@ -21,23 +21,23 @@ fn pending_number(pending: Pending) -> usize
     pending.count as usize + 256 * (pending.older as usize) + 65536 * (pending.newest as usize)
 }
 
-// The seventeen registers in document 01's order.
+/// The seventeen registers in document 01's order.
 pub fn register_values(registers: Registers) -> [usize; 17]
     ensures { result ≡ register_values registers }
 {
     let display = registers.display;
     let bus = registers.bus;
     let mode = display.combination;
-    let combination = combination_byte(mode) as usize;
-    let external = flag_byte(display.external) as usize;
+    let combination = usize::from(u8::from(mode));
+    let external = usize::from(display.external);
     let shown = display.bits;
     let bits = bits_number(shown);
     let running = bus.auto;
-    let auto = auto_byte(running) as usize;
+    let auto = usize::from(u8::from(running));
     let waiting = bus.pending;
     let pending = pending_number(waiting);
-    let error = flag_byte(bus.error) as usize;
-    let phase = flag_byte(display.phase) as usize;
+    let error = usize::from(bus.error);
+    let phase = usize::from(display.phase);
     [
         display.cursor.x as usize,
         display.cursor.y as usize,

@@ -1,10 +1,11 @@
 -- 02, Req 02: what inspecting a recorded log answers.
-use Rattle.std.specs.Prelude.{ℕ, ◌/◌, ◌%◌, Bool, true, false, cond, ◌&&◌, List, [], eqb, length}
+use Rattle.std.specs.Prelude.{ℕ, ◌/◌, ◌%◌, false, cond, ◌&&◌, List, [], eqb, length}
 use Rattle.state.specs.State.{valid_panel, valid_registers}
 use Rattle.display.specs.Frame.{lent_lengths}
 use Rattle.effects.specs.Machine.{machine}
 use Rattle.controller.specs.Run.{pairs_of, Standing, End, whole, short, Run, run_from}
-use Rattle.inspection.specs.Types.{Panel, Registers, Named, At, Nothing, Looked, Inspected}
+use Rattle.inspection.specs.Types.{Panel, Registers, Nothing, Looked, Inspected}
+pub use Rattle.inspection.specs.Named.{is_nothing}
 use Rattle.inspection.specs.Look.{unseen, Watched, watch_step}
 
 -- a reply, and the display memory then
@@ -18,10 +19,6 @@ inspected_all inspected memory = record { inspected = inspected; memory = memory
 -- nothing is named on a refusal
 abbrev pub unnamed : ℕ → ℕ → Registers → Inspected
 unnamed n place r = record { registers = r; number = n; place = place; unasked = Nothing; wrong = Nothing; passes = false }
-
-abbrev pub is_nothing : Named → Bool
-is_nothing (At n) = false
-is_nothing Nothing = true
 
 -- a log passes exactly if neither exists
 abbrev pub named : Registers → Looked → Inspected

@@ -1,4 +1,5 @@
 pub mod Types
+pub mod Named
 pub mod Look
 pub mod Inspected
 pub mod Claims

@@ -3,130 +3,76 @@ ghost use Rattle.std.specs.Prelude.{◌≡◌, true, ◌*◌, ◌/◌, ◌%◌, 
 ghost use Rattle.controller.specs.Run.{pairs_of, run_from};
 ghost use Rattle.controller.specs.Ready.{Runs};
 ghost use Rattle.inspection.specs.Look.{watch_step};
-ghost use Rattle.inspection.specs.Inspected.{inspected_all, unnamed, is_nothing, named, inspected_of, begun_watch, inspect_of};
+ghost use Rattle.inspection.specs.Inspected.{inspected_all, inspected_of, begun_watch, inspect_of};
+ghost use Rattle.inspection.specs.Named.{inspected};
 
-use super::look::{Looked, Named, compare_answer, look, nothing_seen};
-use contents::bytes::byte_at;
-use single::access::access;
+use super::look::{Findings, Looked};
+use single::step;
 use state::panel::Panel;
+use state::refusal::{Refusal, Refused};
 use state::registers::Registers;
-
-// A number and place; the first pair that was not asked for, the first recorded answer that is not the controller's own; the registers after.
-#[derive(Clone, Copy)]
-pub struct Inspected {
-    pub registers: Registers,
-    pub number: u8,
-    pub place: usize,
-    pub unasked: Named,
-    pub wrong: Named,
-    pub passes: bool,
-}
-
-fn refuse(number: u8, place: usize, registers: Registers) -> Inspected
-    ensures { result ≡ unnamed number place registers }
-{
-    Inspected {
-        registers,
-        number,
-        place,
-        unasked: Named::Nothing,
-        wrong: Named::Nothing,
-        passes: false,
-    }
-}
-
-fn is_nothing(named: Named) -> bool
-    ensures { result ≡ is_nothing named }
-{
-    match named {
-        Named::At(_) => false,
-        Named::Nothing => true,
-    }
-}
-
-fn name(registers: Registers, seen: Looked) -> Inspected
-    ensures { result ≡ named registers seen }
-{
-    let unasked = seen.unasked;
-    let wrong = seen.wrong;
-    Inspected {
-        registers,
-        number: 0,
-        place: 0,
-        unasked,
-        wrong,
-        passes: is_nothing(unasked) & is_nothing(wrong),
-    }
-}
 
 // All pairs of a log, on a machine that is known to be valid.
 fn follow(
+    registers: &mut Registers,
     panel: Panel,
-    before: Registers,
-    mem: &mut [u8],
+    memory: &mut [u8],
     rom: &[u8],
     log: &[u8],
     recorded: &[u8],
-) -> Inspected
-    requires runs { Runs panel before mem.old rom.now }
+) -> Result<Findings, Refused>
+    requires runs { Runs panel registers.old memory.old rom.now }
     requires log_len { length log.now % 2 ≡ 0 }
-    ensures { inspected_all result mem.new ≡ inspected_of recorded.now (run_from (watch_step panel rom.now recorded.now) 0 (pairs_of log.now) (begun_watch before mem.old)) }
+    ensures { inspected_all (inspected result registers.new) memory.new ≡ inspected_of recorded.now (run_from (watch_step panel rom.now recorded.now) 0 (pairs_of log.now) (begun_watch registers.old memory.old)) }
 {
-    let total = log.len() / 2;
-    let mut registers = before;
-    let mut seen = nothing_seen();
+    let mut seen = Looked::nothing();
     let mut given: usize = 0;
-    let mut i: usize = 0;
-    while i < total {
+    for i in 0..log.len() / 2 {
         let kind = log[2 * i];
         let byte = log[2 * i + 1];
-        let bus = registers.bus;
-        let auto = bus.auto;
-        let acted = access(panel, registers, mem, rom, kind, byte);
-        let number = acted.number;
-        if number != 0 {
-            return refuse(number, i, registers);
-        }
-        let answer = byte_at(recorded, given);
-        seen = look(seen, auto, kind, answer, i);
-        registers = acted.registers;
-        i += 1;
-        if (kind == 2) | (kind == 3) {
-            seen = compare_answer(seen, answer, acted.answer, given);
+        let auto = registers.bus.auto;
+        let own = match step::access(registers, panel, memory, rom, kind, byte) {
+            Ok(own) => own,
+            Err(refusal) => return Err(Refused { refusal, place: i }),
+        };
+        let answer = recorded.get(given).copied().unwrap_or(0);
+        seen.look(auto, kind, answer, i);
+        if let Some(byte) = own {
+            seen.compare(answer, byte, given);
             given += 1;
         }
     }
     if recorded.len() == given {
-        name(registers, seen)
-    } else {
-        refuse(14, 0, registers)
+        return Ok(seen.named);
     }
+    Err(Refusal::AnswersUneven.into())
 }
 
-// The tests at the door, then the pairs.
+/// A log of pairs, two bytes each, and the bytes answered beside it. Registers and memory (65,536) end as the run leaves them that stops at the
+/// first refused pair, on a refusal too. Refusals: `Invalid`, `WrongLength`, `OddLength` with the pairs of the log; then that of a pair, with the
+/// pair; then `AnswersUneven` where recorded answers and reads are not equally many.
+#[tactic(auto, unfolding(crate::specs::Inspected::inspect_of))]
 pub fn inspect(
+    registers: &mut Registers,
     panel: Panel,
-    registers: Registers,
-    mem: &mut [u8],
+    memory: &mut [u8],
     rom: &[u8],
     log: &[u8],
     recorded: &[u8],
-) -> Inspected
-    ensures { inspected_all result mem.new ≡ inspect_of panel registers mem.old rom.now log.now recorded.now }
+) -> Result<Findings, Refused>
+    ensures { inspected_all (inspected result registers.new) memory.new ≡ inspect_of panel registers.old memory.old rom.now log.now recorded.now }
 {
-    let valid = panel.valid() & registers.valid();
-    if valid {
-        let fits = (mem.len() == 65536) & (rom.len() == 1024);
-        if fits {
-            if log.len() % 2 == 0 {
-                follow(panel, registers, mem, rom, log, recorded)
-            } else {
-                refuse(8, log.len() / 2, registers)
-            }
-        } else {
-            refuse(2, 0, registers)
-        }
-    } else {
-        refuse(1, 0, registers)
+    if !(panel.valid() & registers.valid()) {
+        return Err(Refusal::Invalid.into());
     }
+    if !((memory.len() == 65536) & (rom.len() == 1024)) {
+        return Err(Refusal::WrongLength.into());
+    }
+    if log.len() % 2 != 0 {
+        return Err(Refused {
+            refusal: Refusal::OddLength,
+            place: log.len() / 2,
+        });
+    }
+    follow(registers, panel, memory, rom, log, recorded)
 }

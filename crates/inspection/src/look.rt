@@ -1,35 +1,34 @@
 // What is seen of a log, pair by pair.
-ghost use Rattle.std.specs.Prelude.{◌≡◌};
+ghost use Rattle.std.specs.Prelude.{◌≡◌, true, not, ◌&&◌};
 ghost use Rattle.inspection.specs.Look.{ready_for, needs_asking, first_named, unseen, look_asked, look_answered};
+ghost use Rattle.inspection.specs.Named.{named_by, looked, is_nothing};
 
 use effects::effect::is_read;
 use ground::bytes::bit;
 use state::registers::Auto;
 
-// The first of something: a pair, or an answer's index among the answers.
-#[derive(Clone, Copy)]
-pub enum Named {
-    At(usize),
-    Nothing,
+/// What an inspection names: the first pair that needed a ready status and had none, and the first recorded answer that is not the controller's
+/// own, by its index among the answers. `None` where there is none.
+#[derive(Clone, Copy, Debug, PartialEq, Eq)]
+pub struct Findings {
+    pub unasked: Option<usize>,
+    pub wrong: Option<usize>,
 }
 
-// Whether a ready status was read since the last pair that needed one; the first pair that had none; the first recorded answer that is not
-// the controller's own.
-#[derive(Clone, Copy)]
+impl Findings {
+    /// Whether neither exists.
+    pub fn passes(self) -> bool
+        ensures { result ≡ (is_nothing (named_by self.unasked) && is_nothing (named_by self.wrong)) }
+    {
+        self.unasked.is_none() & self.wrong.is_none()
+    }
+}
+
+// Whether a ready status was read since the last pair that needed one, and what is named so far.
+#[derive(Clone, Copy, Debug, PartialEq, Eq)]
 pub struct Looked {
     pub asked: bool,
-    pub unasked: Named,
-    pub wrong: Named,
-}
-
-pub(crate) fn nothing_seen() -> Looked
-    ensures { result ≡ unseen }
-{
-    Looked {
-        asked: false,
-        unasked: Named::Nothing,
-        wrong: Named::Nothing,
-    }
+    pub named: Findings,
 }
 
 fn is_ready(auto: Auto, answer: u8) -> bool
@@ -48,47 +47,44 @@ fn needs(auto: Auto, kind: u8) -> bool
     (kind == 0) | (kind == 1) | ((kind == 2) & is_read(auto))
 }
 
-fn first(named: Named, here: bool, place: usize) -> Named
-    ensures { result ≡ first_named named here place }
+// What was named stays; else the place, if it is to be named.
+fn first(named: Option<usize>, here: bool, place: usize) -> Option<usize>
+    ensures { named_by result ≡ first_named (named_by named) here place }
 {
     match named {
-        Named::At(n) => Named::At(n),
-        Named::Nothing => {
-            if here {
-                Named::At(place)
-            } else {
-                Named::Nothing
-            }
+        Some(n) => Some(n),
+        None if here => Some(place),
+        None => None,
+    }
+}
+
+impl Looked {
+    pub(crate) fn nothing() -> Looked
+        ensures { looked result ≡ unseen }
+    {
+        Looked {
+            asked: false,
+            named: Findings {
+                unasked: None,
+                wrong: None,
+            },
         }
     }
-}
 
-// An accepted pair, by the auto mode before it.
-pub(crate) fn look(seen: Looked, auto: Auto, kind: u8, recorded: u8, place: usize) -> Looked
-    ensures { result ≡ look_asked auto kind recorded place seen }
-{
-    let asked = seen.asked;
-    let unasked = seen.unasked;
-    let wrong = seen.wrong;
-    let needed = needs(auto, kind);
-    let served = (kind == 3) & is_ready(auto, recorded);
-    Looked {
-        asked: !needed & (asked | served),
-        unasked: first(unasked, needed & !asked, place),
-        wrong,
+    // An accepted pair, by the auto mode before it.
+    pub(crate) fn look(&mut self, auto: Auto, kind: u8, recorded: u8, place: usize)
+        ensures { looked self.new ≡ look_asked auto kind recorded place (looked self.old) }
+    {
+        let needed = needs(auto, kind);
+        let served = (kind == 3) & is_ready(auto, recorded);
+        self.named.unasked = first(self.named.unasked, needed & !self.asked, place);
+        self.asked = !needed & (self.asked | served);
     }
-}
 
-// A read's answer beside the recorded one.
-pub(crate) fn compare_answer(seen: Looked, recorded: u8, own: u8, index: usize) -> Looked
-    ensures { result ≡ look_answered recorded own index seen }
-{
-    let asked = seen.asked;
-    let unasked = seen.unasked;
-    let wrong = seen.wrong;
-    Looked {
-        asked,
-        unasked,
-        wrong: first(wrong, recorded != own, index),
+    // A read's answer beside the recorded one.
+    pub(crate) fn compare(&mut self, recorded: u8, own: u8, index: usize)
+        ensures { looked self.new ≡ look_answered recorded own index (looked self.old) }
+    {
+        self.named.wrong = first(self.named.wrong, recorded != own, index);
     }
 }

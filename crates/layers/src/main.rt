@@ -6,34 +6,55 @@ ghost use Rattle.std.specs.Prelude.{◌≤◌};
 
 use controller::run::run_stopping;
 use display::seen::row_layers;
-use ground::bytes::{bit, lesser};
+use ground::bytes::bit;
 use ground::cells::pack;
 use output::write_line;
 use printed::fill::{character_rom, empty_memory};
 use printed::input::{byte_in, panel_in, rest_in};
-use report::{STDOUT_FILENO, has_argument, read_rom, read_whole, report};
+use report::{has_argument, read_rom, read_whole, report};
 use state::panel::Panel;
 use state::registers::{Display, Registers};
+use std::fmt;
+use std::io::Result;
 
 // The column that asks for the whole frame: no panel has it.
 const WHOLE: usize = 255;
 
-// Whether all was written, and the run's number.
+// The most cells of a row.
+const CELLS: usize = 80;
+
 #[derive(Clone, Copy)]
-struct Shown {
-    whole: bool,
-    number: u8,
+enum Layer {
+    Text,
+    Graphic,
+    Shown,
+}
+
+impl fmt::Display for Layer {
+    fn fmt<W: fmt::Write>(&self, f: &mut fmt::Formatter<W>) -> fmt::Result {
+        f.write_str(match self {
+            Layer::Text => "text",
+            Layer::Graphic => "graphic",
+            Layer::Shown => "shown",
+        })
+    }
+}
+
+// What decides the picture.
+#[derive(Clone, Copy, Drop)]
+struct Picture<'a> {
+    panel: Panel,
+    display: Display,
+    memory: &'a [u8],
+    rom: &'a [u8],
 }
 
 // The dots of at most eighty cells.
 fn dots_of(cells: usize, width: usize) -> usize
     ensures { result ≤ 640 }
 {
-    let few = lesser(cells, 80);
-    if width == 6 {
-        return 6 * few;
-    }
-    8 * few
+    let few = cells.min(CELLS);
+    if width == 6 { 6 * few } else { 8 * few }
 }
 
 fn mark(dot: u8) -> u8 {
@@ -41,132 +62,72 @@ fn mark(dot: u8) -> u8 {
 }
 
 fn fill_dots(packed: &[u8], line: &mut [u8]) {
-    for x in 0..line.len() {
-        line[x] = mark(bit(byte_in(packed, x / 8), 7 - x % 8));
+    for (x, place) in line.iter_mut().enumerate() {
+        *place = mark(bit(byte_in(packed, x / 8), 7 - x % 8));
     }
 }
 
-fn put_line(width: usize, cells: &[u8], packed: &mut [u8], line: &mut [u8]) -> bool {
-    pack(width, cells, packed);
-    fill_dots(packed, line);
-    let put = io::write_all(STDOUT_FILENO, line);
-    put & io::write_all(STDOUT_FILENO, b"\n")
-}
-
-// A line of dots, the leftmost first.
-fn put_cells(width: usize, cells: &[u8]) -> bool {
+// Cells as a line of dots, the leftmost first.
+fn put_cells(rt: HostRuntime, width: usize, cells: &[u8]) -> Result<()> {
     let dots = dots_of(cells.len(), width);
-    let bytes = (dots + 7) / 8;
-    let mut packed = [0u8; 80];
-    let mut line = [0u8; 640];
-    put_line(width, cells, &mut packed[..bytes], &mut line[..dots])
+    let bytes = dots.div_ceil(8);
+    let mut packed = [0u8; CELLS];
+    let mut line = [0u8; 8 * CELLS];
+    pack(width, cells, &mut packed[..bytes]);
+    fill_dots(&packed[..bytes], &mut line[..dots]);
+    rt.write_all(&line[..dots])?;
+    println!(rt; "")
 }
 
-// One layer of a stretch: 0 text, 1 graphic, else what comes of them.
-fn put_one(
-    panel: Panel,
-    display: Display,
-    mem: &[u8],
-    rom: &[u8],
-    row: usize,
-    column: usize,
-    layer: usize,
-    text: &mut [u8],
-    graphic: &mut [u8],
-    shown: &mut [u8],
-) -> bool {
-    row_layers(panel, display, mem, rom, row, column, text, graphic, shown);
-    if layer == 0 {
-        return put_cells(panel.width, text);
+impl Picture<'_> {
+    // One layer of so many cells of a row, at most eighty; blank where there is no such row or cell.
+    fn put_layer(
+        &self,
+        rt: HostRuntime,
+        layer: Layer,
+        row: usize,
+        column: usize,
+        cells: usize,
+    ) -> Result<()> {
+        let few = cells.min(CELLS);
+        let mut text = [0u8; CELLS];
+        let mut graphic = [0u8; CELLS];
+        let mut shown = [0u8; CELLS];
+        let _ = row_layers(
+            self.panel,
+            self.display,
+            self.memory,
+            self.rom,
+            row,
+            column,
+            &mut text[..few],
+            &mut graphic[..few],
+            &mut shown[..few],
+        );
+        let seen = match layer {
+            Layer::Text => &text,
+            Layer::Graphic => &graphic,
+            Layer::Shown => &shown,
+        };
+        put_cells(rt, self.panel.width, &seen[..few])
     }
-    if layer == 1 {
-        return put_cells(panel.width, graphic);
+
+    // A layer of the cell, or of every row.
+    fn put(&self, rt: HostRuntime, layer: Layer, row: usize, column: usize) -> Result<()> {
+        if column != WHOLE {
+            print!(rt; "{layer} ")?;
+            return self.put_layer(rt, layer, row, column, 1);
+        }
+        println!(rt; "{layer}")?;
+        for row in 0..8 * self.panel.lines.min(32) {
+            self.put_layer(rt, layer, row, 0, self.panel.columns)?;
+        }
+        Ok(())
     }
-    put_cells(panel.width, shown)
-}
-
-// The same of so many cells, at most eighty.
-fn put_layer(
-    panel: Panel,
-    display: Display,
-    mem: &[u8],
-    rom: &[u8],
-    row: usize,
-    column: usize,
-    cells: usize,
-    layer: usize,
-) -> bool {
-    let few = lesser(cells, 80);
-    let mut text = [0u8; 80];
-    let mut graphic = [0u8; 80];
-    let mut shown = [0u8; 80];
-    put_one(
-        panel,
-        display,
-        mem,
-        rom,
-        row,
-        column,
-        layer,
-        &mut text[..few],
-        &mut graphic[..few],
-        &mut shown[..few],
-    )
-}
-
-fn put_name(layer: usize, end: &[u8]) -> bool {
-    let named = match layer {
-        0 => io::write_all(STDOUT_FILENO, b"text"),
-        1 => io::write_all(STDOUT_FILENO, b"graphic"),
-        _ => io::write_all(STDOUT_FILENO, b"shown"),
-    };
-    named & io::write_all(STDOUT_FILENO, end)
-}
-
-// All rows of a layer.
-fn put_rows(panel: Panel, display: Display, mem: &[u8], rom: &[u8], layer: usize) -> bool {
-    let lines = lesser(panel.lines, 32);
-    let mut whole = true;
-    for row in 0..8 * lines {
-        let put = put_layer(panel, display, mem, rom, row, 0, panel.columns, layer);
-        whole = whole & put;
-    }
-    whole
-}
-
-fn put_cell_layer(
-    panel: Panel,
-    display: Display,
-    mem: &[u8],
-    rom: &[u8],
-    row: usize,
-    column: usize,
-    layer: usize,
-) -> bool {
-    if column == WHOLE {
-        let named = put_name(layer, b"\n");
-        return named & put_rows(panel, display, mem, rom, layer);
-    }
-    let named = put_name(layer, b" ");
-    named & put_layer(panel, display, mem, rom, row, column, 1, layer)
-}
-
-fn put_layers(
-    panel: Panel,
-    display: Display,
-    mem: &[u8],
-    rom: &[u8],
-    row: usize,
-    column: usize,
-) -> bool {
-    let text = put_cell_layer(panel, display, mem, rom, row, column, 0);
-    let graphic = put_cell_layer(panel, display, mem, rom, row, column, 1);
-    let shown = put_cell_layer(panel, display, mem, rom, row, column, 2);
-    text & graphic & shown
 }
 
 // The run's line, as the log program has it, then the layers; on refusals 1 and 8 the line only.
-fn show(rt: HostRuntime, rom: &[u8], input: &[u8]) -> Shown {
+fn show(rt: HostRuntime, rom: &[u8], input: &[u8]) -> Result<u8> {
     let panel = panel_in(input, has_argument(&rt, 2));
     let row = byte_in(input, 3) as usize;
     let column = byte_in(input, 4) as usize;
@@ -183,35 +144,34 @@ fn show(rt: HostRuntime, rom: &[u8], input: &[u8]) -> Shown {
         log.len() / 2,
         &mut answers,
     );
-    let line = write_line(STDOUT_FILENO, ran.taken, ran.answers, ran.number, ran.place);
+    write_line(&rt, ran.taken, ran.answers, ran.number, ran.place)?;
     if (ran.number == 1) | (ran.number == 8) {
-        return Shown {
-            whole: line,
-            number: ran.number,
-        };
+        return Ok(ran.number);
     }
-    let after = ran.registers;
-    let display = after.display;
-    let put = put_layers(panel, display, &memory, rom, row, column);
-    Shown {
-        whole: line & put,
-        number: ran.number,
+    let picture = Picture {
+        panel,
+        display: ran.registers.display,
+        memory: &memory,
+        rom,
+    };
+    for layer in [Layer::Text, Layer::Graphic, Layer::Shown] {
+        picture.put(rt, layer, row, column)?;
     }
+    Ok(ran.number)
+}
+
+// Its own in each program: the room's length and what is shown differ, and a closure would be no plainer.
+// A log run and its layers shown: the run's refusal number.
+fn layers(rt: HostRuntime) -> Result<u8> {
+    let mut rom = character_rom();
+    read_rom(&mut rt.stdin(), has_argument(&rt, 1), &mut rom)?;
+    let mut input = [0u8; 16389];
+    let end = read_whole(&mut rt.stdin(), &mut input)?;
+    show(rt, &rom, &input[..end])
 }
 
 fn main(rt: HostRuntime) {
-    let mut rom = character_rom();
-    if !read_rom(&mut rt.stdin(), has_argument(&rt, 1), &mut rom) {
-        return;
-    }
-    let mut input = [0u8; 16389];
-    let got = read_whole(&mut rt.stdin(), &mut input);
-    if got.failed {
-        return;
-    }
-    let end = got.count;
-    let shown = show(rt, &rom, &input[..end]);
-    if shown.whole {
-        report(shown.number);
+    if let Ok(number) = layers(rt) {
+        report(number);
     }
 }

@@ -12,10 +12,10 @@ use Rattle.contents.proofs.Soundness.{Entered}
 use Rattle.book.specs.Operation.{Operation}
 use Rattle.book.specs.Screen.{Screen, screen, refused, operations_from}
 use Rattle.book.proofs.Locality.{Alike, operations-move}
-use Rattle.layout.specs.declared.reading.BodyRead.{BodyRead}
-use Rattle.layout.specs.declared.reading.BodyRead.TheVariants.{Plain as Body-Plain, And as Body-And, Faulty as Body-Faulty}
-use Rattle.layout.specs.declared.reading.BodiesRead.{BodiesRead}
-use Rattle.layout.specs.declared.reading.BodiesRead.TheVariants.{Plain, And, Faulty}
+use Rattle.layout.specs.BodyRead.{BodyRead}
+use Rattle.layout.specs.BodyRead.{Plain as Body-Plain, And as Body-And, Faulty as Body-Faulty}
+use Rattle.layout.specs.BodiesRead.{BodiesRead}
+use Rattle.layout.specs.BodiesRead.{Plain, And, Faulty}
 use Rattle.layout.specs.Uses.{body_read, and_before, read_before, bodies_read}
 use Rattle.layout.specs.Laid.{bodies_laid, bytes_between, screens_of}
 use Rattle.layout.proofs.Layouts.{bodies_from}

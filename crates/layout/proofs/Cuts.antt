@@ -1,73 +1,37 @@
--- A torn book saved: its tables, the bodies cut behind their good operations, and each answer.
+-- A torn book saved: the bodies cut behind their good operations, and each answer.
 use mathlib.Core.Path.{◌≡◌, refl, ap, sym, subst, ◌∙◌}
 use mathlib.Core.Bool.{Bool, true, false, cond}
-use mathlib.Core.List.{List, [], ◌∷◌}
-use Prim.Native.Nat.{ℕ, zero, suc, ◌+◌, ◌-◌, ◌<◌, ◌≤◌}
+use mathlib.Core.List.{List, [], ◌∷◌, ◌++◌}
+use Prim.Native.Nat.{ℕ, suc, ◌+◌, ◌-◌, ◌<◌, ◌≤◌}
 use native.Mathlib.Nat.{zero-add}
 use native.Mathlib.Omega.{arith}
-use lib.ListN.{length, get_or, set}
-use lib.Seq.{sets}
+use lib.ListN.{length, set, take, drop, length-set, replicate}
+use lib.Dec.{eqb}
+use lib.Seq.{sets, sets-eq, take-append_seam}
 use borrow.Author.Tests.{eq-eqb, ne_eqb}
+use Rattle.std.proofs.lemmas.List.{map-set, take-map}
 use Rattle.ground.specs.Lists.{zeros}
 use Rattle.ground.proofs.Tests.{settled}
 use Rattle.state.specs.declared.panel.Panel.{Panel}
 use Rattle.state.specs.State.{valid_panel}
-use Rattle.contents.specs.declared.open.Spans.{Spans}
+use Rattle.contents.specs.declared.spans.Span.{Span}
 use Rattle.contents.specs.Contents.{Body, Contents, sound, wrong, is_two, contents_of, entries_at, entry_size, first_body, entry_at}
-use Rattle.contents.specs.Spans.{keys_of, starts_of, ends_of, spans_of}
+use Rattle.contents.specs.Replies.{body, bodies}
+use Rattle.contents.specs.Spans.{keys_of}
 use Rattle.contents.proofs.Soundness.{Entered, sound-book}
-use Rattle.contents.proofs.Spanning.{Stands, first-start, first-end, stands_on, spans-stand}
-use Rattle.layout.specs.declared.moves.Moved.{Moved}
-use Rattle.layout.specs.declared.saving.Salvaged.{Salvaged}
-use Rattle.layout.specs.declared.saving.Tables.{Tables}
+use Rattle.std.specs.Prelude.{Result, Ok, Err}
+use Rattle.std.proofs.Math.Bridge.{le_prop}
+use Rattle.state.specs.declared.refusal.Refused.{Refused}
+use Rattle.state.proofs.RefusalNumbers.{not_zero, same_number}
+use Rattle.layout.specs.declared.saved.Saved.{Saved}
+use Rattle.layout.specs.declared.saved.Salvaged.{Salvaged as Report}
 use Rattle.layout.specs.Laid.{laid_out, screens_of}
-use Rattle.layout.specs.Moved.{moved_all, fitted}
-use Rattle.layout.specs.Ready.{kept_from, kept_in, sizes_from, laid_size, Spanned}
-use Rattle.layout.specs.Saved.{good_until, good_end, cut_all, kept_bytes, dropped_bytes, SavedBook, saved_all, not_saved, saved_by, saved_in, salvage_of}
-use Rattle.layout.specs.Tables.{good_at, good_ends, kept_sizes, dropped_sizes, tables_on, tables_of, cut_spans}
+use Rattle.layout.specs.Moved.{Moved, MovedBook, moved_all, fitted}
+use Rattle.layout.specs.Ready.{sizes_of, laid_size, Within, Spanned}
+use Rattle.layout.specs.Replies.{kept, dropped, salvaged}
+use Rattle.layout.specs.Saved.{good_end, cut_all, kept_bytes, dropped_bytes, Salvaged, SavedBook, saved_all, not_saved, saved_by, saved_in, salvage_of}
 use Rattle.layout.proofs.Good.{good-within}
-use Rattle.layout.proofs.Laying.{stands-kept}
-use Rattle.layout.proofs.Moving.{open-book, open-wrong}
-
--- the tables filled, one body after the other
-pub record Tabulating (p : Panel) (book : List ℕ) (s : Spans) (i : ℕ) (ends kept dropped : List ℕ) : Type 0 where
-  pub before : i ≤ s.count
-  pub same : tables_on p book s (s.count - i) i ends kept dropped ≡ tables_of p book s
-
-module _ (p : Panel) (book : List ℕ) (s : Spans) where
-  pub tabulating-starts : {ends kept dropped : List ℕ} → ends ≡ zeros 64 → kept ≡ zeros 64 → dropped ≡ zeros 64 → Tabulating p book s 0 ends kept dropped
-  tabulating-starts e k d =
-      let z : s.count - 0 ≡ s.count = omega arith in
-      record { before = omega arith; same = λ t. tables_on p book s (z t) 0 (e t) (k t) (d t) }
-
-  pub good-inside : Spanned s (length book) → (i : ℕ) → i < s.count → {good : ℕ} → good ≡ good_at p book s i → (get_or s.starts i 0 ≤ good) × (good ≤ get_or s.ends i 0)
-  good-inside k i l {good} e =
-      let w = good-within p book (get_or s.ends i 0) (get_or s.ends i 0 - get_or s.starts i 0) (get_or s.starts i 0) (k.order i l) in
-      (rw e w.0, rw e w.1)
-
-  pub tabulating-on : {i good : ℕ} {ends kept dropped : List ℕ} → Tabulating p book s i ends kept dropped → i < s.count → good ≡ good_at p book s i
-      → Tabulating p book s (i + 1) (set ends i good) (set kept i (good - get_or s.starts i 0)) (set dropped i (get_or s.ends i 0 - good))
-  unfolding good_ends kept_sizes dropped_sizes
-  tabulating-on {i} {good} {ends} {kept} {dropped} k l e =
-      let n : suc (s.count - (i + 1)) ≡ s.count - i = omega arith in
-      let j : i + 1 ≡ suc i = omega arith in
-      let left : ℕ = s.count - (i + 1) in
-      record {
-        before = omega arith;
-        same = (λ t. record {
-          ends = sets (set ends i (e t)) (j t) (good_ends p book s left (i + 1));
-          kept = sets (set kept i (e t - get_or s.starts i 0)) (j t) (kept_sizes p book s left (i + 1));
-          dropped = sets (set dropped i (get_or s.ends i 0 - e t)) (j t) (dropped_sizes p book s left (i + 1));
-        })
-            ∙ ap (λ (m : ℕ). tables_on p book s m i ends kept dropped) n ∙ k.same;
-      }
-
-  pub tabulating-ends : {i : ℕ} {ends kept dropped : List ℕ} → Tabulating p book s i ends kept dropped → s.count ≤ i
-      → record { ends = ends; kept = kept; dropped = dropped } ≡ tables_of p book s
-  unfolding good_ends kept_sizes dropped_sizes
-  tabulating-ends {i} {ends} {kept} {dropped} k h =
-      let z : 0 ≡ s.count - i = omega arith in
-      ap (λ (m : ℕ). tables_on p book s m i ends kept dropped) z ∙ k.same
+use Rattle.layout.proofs.Sums.{no_span}
 
 -- bodies that were cut have their keys and starts
 module _ (p : Panel) (book : List ℕ) where
@@ -79,28 +43,6 @@ module _ (p : Panel) (book : List ℕ) where
   cut-keys [] = refl
   cut-keys (b ∷ bs) = ap (λ (l : List ℕ). b.key ∷ l) (cut-keys bs)
 
-  cut-starts : (bs : List Body) → starts_of (cut_all p book bs) ≡ starts_of bs
-  cut-starts [] = refl
-  cut-starts (b ∷ bs) = ap (λ (l : List ℕ). b.start ∷ l) (cut-starts bs)
-
-  -- by the tables as by the contents
-  stands_good : {s : Spans} (bs : List Body) (i : ℕ) → Stands s i bs → good_ends p book s (length bs) i ≡ ends_of (cut_all p book bs)
-  unfolding good_ends
-  stands_good [] i k = refl
-  stands_good (b ∷ bs) i k = λ t. good_until (first-end k t - first-start k t) p book (first-start k t) (first-end k t) ∷ stands_good bs (i + 1) (stands_on k) t
-
-  stands-kept-bytes : {s : Spans} (bs : List Body) (i : ℕ) → Stands s i bs → kept_sizes p book s (length bs) i ≡ kept_bytes p book bs
-  unfolding kept_sizes
-  stands-kept-bytes [] i k = refl
-  stands-kept-bytes (b ∷ bs) i k =
-      λ t. (good_until (first-end k t - first-start k t) p book (first-start k t) (first-end k t) - first-start k t) ∷ stands-kept-bytes bs (i + 1) (stands_on k) t
-
-  stands-dropped-bytes : {s : Spans} (bs : List Body) (i : ℕ) → Stands s i bs → dropped_sizes p book s (length bs) i ≡ dropped_bytes p book bs
-  unfolding dropped_sizes
-  stands-dropped-bytes [] i k = refl
-  stands-dropped-bytes (b ∷ bs) i k =
-      λ t. (first-end k t - good_until (first-end k t - first-start k t) p book (first-start k t) (first-end k t)) ∷ stands-dropped-bytes bs (i + 1) (stands_on k) t
-
   -- a good end lies inside its body
   pub entered-good : (two : Bool) (at start least : ℕ) (b : Body) (bs : List Body) → Entered two book at start least (b ∷ bs)
       → (b.start ≡ start) × (b.start ≤ good_end p book b) × (good_end p book b ≤ b.end) × (b.end ≤ length book)
@@ -110,157 +52,151 @@ module _ (p : Panel) (book : List ℕ) where
       let w = good-within p book b.end (b.end - b.start) b.start (omega arith) in
       (first, w.0, w.1, omega (arith, k.0.inside))
 
-  cut_inside : (two : Bool) (at start least : ℕ) (bs : List Body) → Entered two book at start least bs → (i : ℕ) → i < length bs
-      → (get_or (starts_of (cut_all p book bs)) i 0 ≤ get_or (ends_of (cut_all p book bs)) i 0) × (get_or (ends_of (cut_all p book bs)) i 0 ≤ length book)
-  cut_inside two at start least [] k i l = absurd (omega arith)
-  cut_inside two at start least (b ∷ bs) k zero l =
+  cut-within : (two : Bool) (at start least : ℕ) (bs : List Body) → Entered two book at start least bs → Within (length book) (cut_all p book bs)
+  cut-within two at start least [] k = tt
+  cut-within two at start least (b ∷ bs) k =
       let g = entered-good two at start least b bs k in
-      (g.1, omega (arith, g.2, g.3))
-  cut_inside two at start least (b ∷ bs) k (suc i) l = cut_inside two (at + entry_size two) b.end (b.key + 1) bs k.2 i (omega arith)
+      (g.1, (omega (arith, g.2, g.3), cut-within two (at + entry_size two) b.end (b.key + 1) bs k.2))
 
-  cut-sizes : {s : Spans} (two : Bool) (at start least i : ℕ) (bs : List Body) → Entered two book at start least bs → start ≤ length book → Stands s i (cut_all p book bs)
-      → start + sizes_from s (length bs) i ≤ length book
-  unfolding sizes_from
-  cut-sizes two at start least i [] e h k = omega arith
-  cut-sizes {s} two at start least i (b ∷ bs) e h k =
-      let x = first-start k in
-      let y = first-end k in
+  cut-sizes : (two : Bool) (at start least : ℕ) (bs : List Body) → Entered two book at start least bs → start ≤ length book → start + sizes_of (cut_all p book bs) ≤ length book
+  unfolding sizes_of
+  cut-sizes two at start least [] e h = omega arith
+  cut-sizes two at start least (b ∷ bs) e h =
       let g = entered-good two at start least b bs e in
-      let z = cut-sizes two (at + entry_size two) b.end (b.key + 1) (i + 1) bs e.2 g.3 (stands_on k) in
+      let z = cut-sizes two (at + entry_size two) b.end (b.key + 1) bs e.2 g.3 in
       omega (arith, g.0, g.1, g.2)
 
   module _ {bs : List Body} (h : contents_of book ≡ sound bs) where
-    cuts : Spans
-    cuts = spans_of (is_two book) (sound (cut_all p book bs))
-
-    cut_stands : Stands (spans_of (is_two book) (sound (cut_all p book bs))) 0 (cut_all p book bs)
-    cut_stands = spans-stand (is_two book) (cut_all p book bs) (rw (cut-count bs) (sound-book book h).opens.few)
-
-    -- the tables that were cut are those of the bodies that were
-    pub cut-is : cut_spans (spans_of (is_two book) (sound bs)) (tables_of p book (spans_of (is_two book) (sound bs))) ≡ spans_of (is_two book) (sound (cut_all p book bs))
-    cut-is =
-        let s : Spans = spans_of (is_two book) (sound bs) in
-        let k = spans-stand (is_two book) bs (sound-book book h).opens.few in
-        let e : good_ends p book s (0 + length bs) 0 ≡ ends_of (cut_all p book bs) = ap (λ (n : ℕ). good_ends p book s n 0) (zero-add (length bs)) ∙ stands_good bs 0 k in
-        λ t. record {
-          number = 0;
-          place = 0;
-          two = is_two book;
-          count = 0 + sym (cut-count bs) t;
-          keys = sets (zeros 64) 0 (sym (cut-keys bs) t);
-          starts = sets (zeros 64) 0 (sym (cut-starts bs) t);
-          ends = sets (zeros 64) 0 (e t);
-        }
-
-    pub cut-spanned : Spanned (spans_of (is_two book) (sound (cut_all p book bs))) (length book)
+    pub cut-spanned : Spanned (cut_all p book bs) (length book)
     cut-spanned =
         let b = sound-book book h in
-        let n = cut-count bs in
         record {
-          few = omega (arith, b.opens.few);
+          few = rw (cut-count bs) b.opens.few;
           short = b.opens.short;
-          order = λ i l.
-              let x = cut_inside (is_two book) (entries_at (is_two book)) (first_body (is_two book) (length bs)) 0 bs b.entries i (omega arith) in
-              rw (at-start i (omega arith), at-end i (omega arith)) x.0;
-          inside = λ i l.
-              let x = cut_inside (is_two book) (entries_at (is_two book)) (first_body (is_two book) (length bs)) 0 bs b.entries i (omega arith) in
-              rw (at-end i (omega arith)) x.1;
+          within = cut-within (is_two book) (entries_at (is_two book)) (first_body (is_two book) (length bs)) 0 bs b.entries;
         }
-      where
-        at-start : (i : ℕ) → i < length (cut_all p book bs) → get_or (spans_of (is_two book) (sound (cut_all p book bs))).starts i 0 ≡ get_or (starts_of (cut_all p book bs)) i 0
-        at-start i l = ap (λ (n : ℕ). get_or (spans_of (is_two book) (sound (cut_all p book bs))).starts n 0) (sym (zero-add i)) ∙ cut_stands.starts i l
 
-        at-end : (i : ℕ) → i < length (cut_all p book bs) → get_or (spans_of (is_two book) (sound (cut_all p book bs))).ends i 0 ≡ get_or (ends_of (cut_all p book bs)) i 0
-        at-end i l = ap (λ (n : ℕ). get_or (spans_of (is_two book) (sound (cut_all p book bs))).ends n 0) (sym (zero-add i)) ∙ cut_stands.ends i l
-
-    pub cut-size : laid_size (is_two book) (spans_of (is_two book) (sound (cut_all p book bs))) ≤ length book
+    pub cut-size : laid_size (is_two book) (cut_all p book bs) ≤ length book
     cut-size =
         let b = sound-book book h in
-        let z : length bs ≡ 0 + length (cut_all p book bs) = sym (cut-count bs) ∙ sym (zero-add (length (cut_all p book bs))) in
-        subst (λ (n : ℕ). first_body (is_two book) n + sizes_from (spans_of (is_two book) (sound (cut_all p book bs))) n 0 ≤ length book) z
-        (cut-sizes (is_two book) (entries_at (is_two book)) (first_body (is_two book) (length bs)) 0 0 bs b.entries b.opens.contents cut_stands)
+        subst (λ (n : ℕ). first_body (is_two book) n + sizes_of (cut_all p book bs) ≤ length book) (sym (cut-count bs))
+        (cut-sizes (is_two book) (entries_at (is_two book)) (first_body (is_two book) (length bs)) 0 bs b.entries b.opens.contents)
 
-    pub cut-kept : kept_in (spans_of (is_two book) (sound (cut_all p book bs))) book ≡ screens_of book (cut_all p book bs)
-    cut-kept =
-        ap (λ (n : ℕ). kept_from (spans_of (is_two book) (sound (cut_all p book bs))) book n 0) (zero-add (length (cut_all p book bs)))
-        ∙ stands-kept book (cut_all p book bs) 0 cut_stands
+-- nothing kept of no body
+abbrev pub none : Saved
+none = record { kept = 0; dropped = 0 }
 
-    kept-is : (tables_of p book (spans_of (is_two book) (sound bs))).kept ≡ sets (zeros 64) 0 (kept_bytes p book bs)
-    kept-is =
-        let k = spans-stand (is_two book) bs (sound-book book h).opens.few in
-        ap (λ (n : ℕ). sets (zeros 64) 0 (kept_sizes p book (spans_of (is_two book) (sound bs)) n 0)) (zero-add (length bs)) ∙ ap (sets (zeros 64) 0) (stands-kept-bytes bs 0 k)
+-- the screens cut, one after the other
+pub record Cutting (p : Panel) (book : List ℕ) (bs : List Body) (cut : List Span) (screens : List Saved) (i : ℕ) (left : List Body) : Type 0 where
+  pub within : Within (length book) left
+  pub last : i + length left ≤ 64
+  pub long : length cut ≡ 64
+  pub reported : length screens ≡ 64
+  pub spans : sets (bodies cut) i (cut_all p book left) ≡ sets (bodies (replicate 64 no_span)) 0 (cut_all p book bs)
+  pub kept : sets (kept screens) i (kept_bytes p book left) ≡ sets (zeros 64) 0 (kept_bytes p book bs)
+  pub dropped : sets (dropped screens) i (dropped_bytes p book left) ≡ sets (zeros 64) 0 (dropped_bytes p book bs)
 
-    dropped-is : (tables_of p book (spans_of (is_two book) (sound bs))).dropped ≡ sets (zeros 64) 0 (dropped_bytes p book bs)
-    dropped-is =
-        let k = spans-stand (is_two book) bs (sound-book book h).opens.few in
-        ap (λ (n : ℕ). sets (zeros 64) 0 (dropped_sizes p book (spans_of (is_two book) (sound bs)) n 0)) (zero-add (length bs)) ∙ ap (sets (zeros 64) 0) (stands-dropped-bytes bs 0 k)
+module _ (p : Panel) (book : List ℕ) (bs : List Body) where
+  pub cutting-starts : Spanned bs (length book) → Cutting p book bs (replicate 64 no_span) (replicate 64 none) 0 bs
+  unfolding zeros
+  cutting-starts k = record { within = k.within; last = omega (arith, k.few); long = refl; reported = refl; spans = refl; kept = refl; dropped = refl }
+
+  module _ {cut : List Span} {screens : List Saved} {i : ℕ} {b : Body} {left : List Body} (k : Cutting p book bs cut screens i (b ∷ left)) where
+    pub cutting-room : {good : ℕ} → good ≡ good_end p book b → (i < 64) × ((b.start ≤ good) × (good ≤ b.end))
+    cutting-room e =
+        let w = good-within p book b.end (b.end - b.start) b.start k.within.0 in
+        (omega (arith, k.last), (rw e w.0, rw e w.1))
+
+    pub cutting-on : {good : ℕ} → good ≡ good_end p book b → {s : Span} {r : Saved} → body s ≡ record { key = b.key; start = b.start; end = good }
+        → r.kept ≡ good - b.start → r.dropped ≡ b.end - good → Cutting p book bs (set cut i s) (set screens i r) (i + 1) left
+    cutting-on {good} e {s} {r} f g h =
+        let j : i + 1 ≡ suc i = omega arith in
+        record {
+          within = k.within.1.1;
+          last = omega (arith, k.last);
+          long = simp length-set k.long;
+          reported = simp length-set k.reported;
+          spans = (λ t. sets ((map-set body cut i s ∙ ap (set (bodies cut) i) (f ∙ ap (λ (n : ℕ). record { key = b.key; start = b.start; end = n }) e)) t) (j t) (cut_all p book left)) ∙ k.spans;
+          kept = (λ t. sets ((map-set (λ (x : Saved). x.kept) screens i r ∙ ap (set (kept screens) i) (g ∙ ap (λ (n : ℕ). n - b.start) e)) t) (j t) (kept_bytes p book left)) ∙ k.kept;
+          dropped = (λ t. sets ((map-set (λ (x : Saved). x.dropped) screens i r ∙ ap (set (dropped screens) i) (h ∙ ap (λ (n : ℕ). b.end - n) e)) t) (j t) (dropped_bytes p book left)) ∙ k.dropped;
+        }
+
+  module _ {cut : List Span} {screens : List Saved} {i : ℕ} (k : Cutting p book bs cut screens i []) where
+    pub cut-kept-bytes : kept screens ≡ sets (zeros 64) 0 (kept_bytes p book bs)
+    cut-kept-bytes = k.kept
+
+    pub cut-dropped-bytes : dropped screens ≡ sets (zeros 64) 0 (dropped_bytes p book bs)
+    cut-dropped-bytes = k.dropped
+
+    pub cut-bodies : (n : ℕ) → n ≡ length bs → n ≤ 64 → bodies (take n cut) ≡ cut_all p book bs
+    cut-bodies n e f =
+        let m : n ≡ length (cut_all p book bs) = e ∙ sym (cut-count p book bs) in
+        sym (take-map body n cut) ∙ ap (take n) (k.spans ∙ sets-eq (cut_all p book bs) (bodies (replicate 64 no_span)) 0 (omega (arith, m, f)))
+        ∙ ap (λ (q : ℕ). take n (cut_all p book bs ++ drop q (bodies (replicate 64 no_span)))) (zero-add (length (cut_all p book bs)))
+        ∙ ap (λ (l : ℕ). take l (cut_all p book bs ++ drop (length (cut_all p book bs)) (bodies (replicate 64 no_span)))) m
+        ∙ take-append_seam (cut_all p book bs) (drop (length (cut_all p book bs)) (bodies (replicate 64 no_span)))
 
 -- each answer
 module _ (p : Panel) (book out : List ℕ) where
-  pub save-panel : valid_panel p ≡ false → {r : Salvaged} → r ≡ record { number = 1; place = 0; size = 0; count = 0; kept = zeros 64; dropped = zeros 64 } → saved_all r out ≡ salvage_of p book out
+  pub save-panel : valid_panel p ≡ false → not_saved 1 0 out ≡ salvage_of p book out
   unfolding salvage_of
-  save-panel v e = ap (λ (x : Salvaged). saved_all x out) e ∙ ap (λ (t : Bool). cond t (saved_in p book (contents_of book) out) (not_saved 1 0 out)) (sym v)
+  save-panel v = ap (λ (t : Bool). cond t (saved_in p book (contents_of book) out) (not_saved 1 0 out)) (sym v)
 
-  module _ (v : valid_panel p ≡ true) {s : Spans} (i : s ≡ spans_of (is_two book) (contents_of book)) where
-    save-as : (x : Contents) → contents_of book ≡ x → saved_in p book x out ≡ salvage_of p book out
+  module _ (v : valid_panel p ≡ true) where
+    save-as : {x : Contents} → contents_of book ≡ x → saved_in p book x out ≡ salvage_of p book out
     unfolding salvage_of
-    save-as x h = λ t. cond (sym v t) (saved_in p book (sym h t) out) (not_saved 1 0 out)
+    save-as h = λ t. cond (sym v t) (saved_in p book (sym h t) out) (not_saved 1 0 out)
 
-    pub save-wrong : (s.number ≡ 0 → ⊥) → {r : Salvaged} → r ≡ record { number = 9; place = s.place; size = 0; count = 0; kept = zeros 64; dropped = zeros 64 } → saved_all r out ≡ salvage_of p book out
-    save-wrong z e = ap (λ (x : Salvaged). saved_all x out) e ∙ save-as (wrong s.place) (open-wrong book i z)
+    pub save-wrong : {place : ℕ} → contents_of book ≡ wrong place → not_saved 9 place out ≡ salvage_of p book out
+    save-wrong h = save-as h
 
-    module _ (z : s.number ≡ 0) {t : Tables} (j : t ≡ tables_of p book s) {c : Spans} (k : c ≡ cut_spans s t) where
-      -- the bodies, and what is known of the tables
-      bodies : List Body
-      bodies = (open-book book i z).bodies
+    module _ {bs : List Body} (h : contents_of book ≡ sound bs) {m : Moved} {after : List ℕ} (f : moved_all m after ≡ fitted (laid_out (is_two book) (screens_of book (cut_all p book bs))) out) where
+      saved-as : {w : Bool} → w ≡ eqb m.number 0
+          → cond w (saved_all (record { number = 0; place = 0; size = m.size; count = length bs; kept = sets (zeros 64) 0 (kept_bytes p book bs); dropped = sets (zeros 64) 0 (dropped_bytes p book bs) }) after) (not_saved m.number m.place after)
+          ≡ salvage_of p book out
+      saved-as w =
+          ap (λ (t : Bool). cond t (saved_all (record { number = 0; place = 0; size = m.size; count = length bs; kept = sets (zeros 64) 0 (kept_bytes p book bs); dropped = sets (zeros 64) 0 (dropped_bytes p book bs) }) after) (not_saved m.number m.place after)) w
+          ∙ ap (λ (x : MovedBook). saved_by x (length bs) (kept_bytes p book bs) (dropped_bytes p book bs)) f ∙ save-as h
 
-      contents : contents_of book ≡ sound (open-book book i z).bodies
-      contents = (open-book book i z).tables.contents
+      pub save-short : (m.number ≡ 0 → ⊥) → not_saved m.number m.place after ≡ salvage_of p book out
+      save-short q = saved-as (sym (ne_eqb m.number 0 q))
 
-      spans-are : s ≡ spans_of (is_two book) (sound (open-book book i z).bodies)
-      spans-are = i ∙ ap (spans_of (is_two book)) contents
-
-      cut-are : c ≡ spans_of (is_two book) (sound (cut_all p book (open-book book i z).bodies))
-      cut-are = k ∙ ap (cut_spans s) j ∙ ap (λ (x : Spans). cut_spans x (tables_of p book x)) spans-are ∙ cut-is p book contents
-
-      two_is : s.two ≡ is_two book
-      two_is = ap (λ (x : Spans). x.two) spans-are
-
-      pub save-ready : (Spanned c (length book)) × (laid_size s.two c ≤ 32768)
-      save-ready =
-          let l = (sound-book book contents).opens.short in
-          let m : laid_size (is_two book) (spans_of (is_two book) (sound (cut_all p book (open-book book i z).bodies))) ≤ length book = cut-size p book contents in
-          let e : laid_size s.two c ≡ laid_size (is_two book) (spans_of (is_two book) (sound (cut_all p book (open-book book i z).bodies))) = λ q. laid_size (two_is q) (cut-are q) in
-          (subst (λ (x : Spans). Spanned x (length book)) (sym cut-are) (cut-spanned p book contents), omega arith)
-
-      module _ {m : Moved} {after : List ℕ} (f : moved_all m after ≡ fitted (laid_out s.two (kept_in c book)) out) where
-        saved-as : saved_by (moved_all m after) s.count (kept_bytes p book (open-book book i z).bodies) (dropped_bytes p book (open-book book i z).bodies) ≡ salvage_of p book out
-        saved-as =
-            let bs : List Body = (open-book book i z).bodies in
-            let n : s.count ≡ length bs = ap (λ (x : Spans). x.count) spans-are ∙ zero-add (length bs) in
-            let l : laid_out s.two (kept_in c book) ≡ laid_out (is_two book) (screens_of book (cut_all p book bs)) =
-            (λ q. laid_out (two_is q) (kept_in (cut-are q) book)) ∙ ap (laid_out (is_two book)) (cut-kept p book contents) in
-            (λ q. saved_by ((f ∙ ap (λ (x : List ℕ). fitted x out) l) q) (n q) (kept_bytes p book bs) (dropped_bytes p book bs)) ∙ save-as (sound bs) contents
-
-        pub save-short : (m.number ≡ 0 → ⊥) → {r : Salvaged} → r ≡ record { number = m.number; place = m.place; size = 0; count = 0; kept = zeros 64; dropped = zeros 64 }
-            → saved_all r after ≡ salvage_of p book out
-        save-short q e =
-            let bs : List Body = (open-book book i z).bodies in
-            ap (λ (x : Salvaged). saved_all x after) e
-            ∙ ap (λ (w : Bool). cond w (saved_all (record { number = 0; place = 0; size = m.size; count = s.count; kept = sets (zeros 64) 0 (kept_bytes p book bs); dropped = sets (zeros 64) 0 (dropped_bytes p book bs) }) after) (not_saved m.number m.place after))
-            (sym (ne_eqb m.number 0 q))
-            ∙ saved-as
-
-        pub save-done : m.number ≡ 0 → saved_all (record { number = 0; place = 0; size = m.size; count = s.count; kept = t.kept; dropped = t.dropped }) after ≡ salvage_of p book out
-        save-done q =
-            let bs : List Body = (open-book book i z).bodies in
-            let x : t.kept ≡ sets (zeros 64) 0 (kept_bytes p book bs) = ap (λ (u : Tables). u.kept) j ∙ ap (λ (u : Spans). (tables_of p book u).kept) spans-are ∙ kept-is p book contents in
-            let y : t.dropped ≡ sets (zeros 64) 0 (dropped_bytes p book bs) = ap (λ (u : Tables). u.dropped) j ∙ ap (λ (u : Spans). (tables_of p book u).dropped) spans-are ∙ dropped-is p book contents in
-            (λ d. saved_all (record { number = 0; place = 0; size = m.size; count = s.count; kept = x d; dropped = y d }) after)
-            ∙ ap (λ (w : Bool). cond w (saved_all (record { number = 0; place = 0; size = m.size; count = s.count; kept = sets (zeros 64) 0 (kept_bytes p book bs); dropped = sets (zeros 64) 0 (dropped_bytes p book bs) }) after) (not_saved m.number m.place after))
-            (sym (eq-eqb m.number 0 q))
-            ∙ saved-as
+      pub save-done : m.number ≡ 0 → {n : ℕ} → n ≡ length bs → {ks ds : List ℕ} → ks ≡ sets (zeros 64) 0 (kept_bytes p book bs) → ds ≡ sets (zeros 64) 0 (dropped_bytes p book bs)
+          → saved_all (record { number = 0; place = 0; size = m.size; count = n; kept = ks; dropped = ds }) after ≡ salvage_of p book out
+      save-done q {n} e {ks} {ds} x y =
+          (λ d. saved_all (record { number = 0; place = 0; size = m.size; count = e d; kept = x d; dropped = y d }) after) ∙ saved-as (sym (eq-eqb m.number 0 q))
 
 -- two replies that meet the promise of `salvage` are equal, and so are the outputs
+pub salvage-result-settled : {x y : Result Report Refused} {a b : List ℕ} (p : Panel) (book out : List ℕ)
+    → saved_all (salvaged x) a ≡ salvage_of p book out → saved_all (salvaged y) b ≡ salvage_of p book out → (x ≡ y) × (a ≡ b)
+salvage-result-settled {x} {y} p book out h k = let e = settled h k in (go x y (ap (λ (z : SavedBook). z.reply) e), ap (λ (z : SavedBook). z.out) e)
+  where
+    same : (ss ts : List Saved) → kept ss ≡ kept ts → dropped ss ≡ dropped ts → ss ≡ ts
+    same [] [] a b = refl
+    same [] (t ∷ ts) a b = let z : ◌≡◌ {A = ℕ} 0 (suc (length (kept ts))) = ap length a in absurd (let w : ⊥ = omega arith in w)
+    same (s ∷ ss) [] a b = let z : ◌≡◌ {A = ℕ} (suc (length (kept ss))) 0 = ap length a in absurd (let w : ⊥ = omega arith in w)
+    same (s ∷ ss) (t ∷ ts) a b =
+        let i : s.kept ≡ t.kept = cc in
+        let j : s.dropped ≡ t.dropped = cc in
+        let r = same ss ts (cc) (cc) in
+        λ q. record { kept = i q; dropped = j q } ∷ r q
+
+    counted : (size : ℕ) (ss : List Saved) (n m : ℕ) → n ≡ m → (f : n ≤ 64) (g : m ≤ 64)
+        → ◌≡◌ {A = Report} (record { size = size; count = n; screens = ss; few = f }) (record { size = size; count = m; screens = ss; few = g })
+    counted size ss n m e f g =
+        subst (λ (l : ℕ). (g : l ≤ 64) → ◌≡◌ {A = Report} (record { size = size; count = n; screens = ss; few = f }) (record { size = size; count = l; screens = ss; few = g })) e
+        (λ g q. record { size = size; count = n; screens = ss; few = le_prop f g q }) g
+
+    go : (x y : Result Report Refused) → salvaged x ≡ salvaged y → x ≡ y
+    go (Ok s) (Ok t) h =
+        let l = same s.screens t.screens (ap (λ (r : Salvaged). r.kept) h) (ap (λ (r : Salvaged). r.dropped) h) in
+        ap Ok ((λ q. record { size = (h q).size; count = s.count; screens = l q; few = s.few }) ∙ counted t.size t.screens s.count t.count (ap (λ (r : Salvaged). r.count) h) s.few t.few)
+    go (Ok s) (Err e) h = absurd (not_zero e.refusal (ap (λ (r : Salvaged). r.number) (sym h)))
+    go (Err d) (Ok t) h = absurd (not_zero d.refusal (ap (λ (r : Salvaged). r.number) h))
+    go (Err d) (Err e) h =
+        let n = same_number d.refusal e.refusal (ap (λ (r : Salvaged). r.number) h) in
+        λ q. Err (record { refusal = n q; place = (h q).place })
+
+-- the same of replies
 pub salvage-settled : {x y : SavedBook} (p : Panel) (book out : List ℕ) → x ≡ salvage_of p book out → y ≡ salvage_of p book out → x ≡ y
 salvage-settled p book out h k = settled h k

@@ -8,8 +8,7 @@ use lib.ListN.{length}
 use Rattle.state.specs.declared.panel.Panel.{Panel}
 use Rattle.contents.specs.Contents.{is_two}
 use Rattle.book.specs.declared.operation.Placed.{Placed}
-use Rattle.book.specs.declared.operation.Found.{Found}
-use Rattle.book.specs.declared.operation.Found.TheVariants.{Operation as Found-Operation, End, Faulty}
+use Rattle.book.specs.Replies.{Found, Operation as Found-Operation, End, Faulty}
 use Rattle.book.specs.Operation.{Operation, operation_of, found_at}
 use Rattle.book.specs.Range.{FoundOperation}
 use Rattle.book.specs.Screen.{screen, with_operation, operations_from}

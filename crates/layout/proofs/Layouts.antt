@@ -18,7 +18,7 @@ use Rattle.contents.proofs.Soundness.{Entered, SoundIn, sound-book, book-sound}
 use Rattle.layout.specs.Laid.{Kept, word_bytes, entry_bytes, head_bytes, entries_laid, bodies_laid, laid_out, bytes_between, screens_of}
 use Rattle.layout.specs.Moved.{numbered_from}
 use Rattle.layout.specs.Trips.{BookBytes}
-use Rattle.layout.proofs.Laying.{laid-length, entries-length}
+use Rattle.layout.proofs.Laying.{laid-length, entries-length, screens-count}
 use Rattle.layout.proofs.Puts.{between-length}
 
 -- a word's bytes, and the word of them
@@ -30,10 +30,6 @@ word_back a b h k =
 
 pub word-there : (v : ℕ) → word_of (v % 256) (v / 256) ≡ v
 word-there v = omega arith
-
-pub screens-count : (book : List ℕ) (bs : List Body) → length (screens_of book bs) ≡ length bs
-screens-count book [] = refl
-screens-count book (b ∷ bs) = ap suc (screens-count book bs)
 
 module _ (book : List ℕ) (bytes : BookBytes book) where
   word-drop : (at : ℕ) → at + 2 ≤ length book → drop at book ≡ word_bytes (word_at book at) ++ drop (at + 2) book

@@ -2,11 +2,11 @@
 use mathlib.Core.Path.{◌≡◌, refl, ap, ◌∙◌}
 use mathlib.Core.Bool.{Bool, true, false, cond}
 use mathlib.Core.List.{List, [], ◌∷◌, ◌++◌}
-use Prim.Native.Nat.{ℕ, suc, ◌+◌, ◌-◌, ◌/◌, ◌%◌, ◌<◌, ◌≤◌}
+use Prim.Native.Nat.{ℕ, suc, ◌+◌, ◌-◌, ◌≤◌}
 use native.Mathlib.Nat.{add-suc, suc-add, add-zero}
 use native.Mathlib.Omega.{arith}
-use lib.ListN.{length, get_or, take, drop, set, length-set, length-drop}
-use lib.Seq.{sets, length-sets, drop-cons, length-take-le}
+use lib.ListN.{length, drop, set, length-drop}
+use lib.Seq.{sets, length-sets, length-take-le}
 use Rattle.contents.specs.Contents.{entries_at, entry_size}
 use Rattle.layout.specs.Ready.{BytesPut}
 use Rattle.layout.specs.Laid.{word_bytes, entry_bytes, head_bytes, bytes_between}
@@ -24,11 +24,6 @@ pub putting-starts : (a : List ℕ) (at : ℕ) (xs : List ℕ) → Putting a at 
 putting-starts a at xs = record { rest = refl; kept = refl }
 
 module _ {a : List ℕ} {at : ℕ} {xs b : List ℕ} {w : ℕ} where
-  pub putting-one : {y : ℕ} {ys : List ℕ} → Putting a at xs b w (y ∷ ys) → Putting a at xs (set b w y) (w + 1) ys
-  putting-one {y} {ys} k =
-      let e : w + 1 ≡ suc w = omega arith in
-      record { rest = ap (λ (n : ℕ). sets (set b w y) n ys) e ∙ k.rest; kept = length-set b w y ∙ k.kept }
-
   pub putting-more : {c ys zs : List ℕ} {v : ℕ} → BytesPut b w ys c → sets b w (ys ++ zs) ≡ sets a at xs → length b ≡ length a → v ≡ w + length ys → Putting a at xs c v zs
   putting-more {c} {ys} {zs} {v} h k l e =
       record {
@@ -38,12 +33,6 @@ module _ {a : List ℕ} {at : ℕ} {xs b : List ℕ} {w : ℕ} where
 
   pub putting-ends : Putting a at xs b w [] → BytesPut a at xs b
   putting-ends k = record { holds = k.rest }
-
--- a word, an entry, the first bytes, each by its stores
-pub put_word : (l : List ℕ) (at v : ℕ) → BytesPut l at (word_bytes v) (set (set l at (v % 256)) (at + 1) (v / 256))
-put_word l at v =
-    let e : at + 1 ≡ suc at = omega arith in
-    record { holds = ap (λ (n : ℕ). set (set l at (v % 256)) n (v / 256)) e }
 
 -- one after the other
 pub put_both : {a b c xs ys : List ℕ} {i j : ℕ} → BytesPut a i xs b → BytesPut b j ys c → j ≡ i + length xs → BytesPut a i (xs ++ ys) c
@@ -97,39 +86,3 @@ one-head true most t h = absurd (let z : ◌≡◌ {A = ℕ} 0 1 = ap (λ (x : B
 -- the bytes of a book between two places
 pub between-length : (book : List ℕ) (start end : ℕ) → start ≤ end → end ≤ length book → length (bytes_between book start end) ≡ end - start
 between-length book start end o i = length-take-le (end - start) (drop start book) (simp length-drop (omega arith))
-
-between_first : (book : List ℕ) (from end : ℕ) → from < end → end ≤ length book → bytes_between book from end ≡ get_or book from 0 ∷ bytes_between book (from + 1) end
-between_first book from end l i =
-    let e : end - from ≡ suc (end - (from + 1)) = omega arith in
-    let s : suc from ≡ from + 1 = omega arith in
-    let h : from < length book = omega arith in
-    (λ k. take (e k) (drop-cons book from 0 h k)) ∙ ap (λ (n : ℕ). get_or book from 0 ∷ take (end - (from + 1)) (drop n book)) s
-
-between_none : (book : List ℕ) (from end : ℕ) → end ≤ from → bytes_between book from end ≡ []
-between_none book from end h =
-    let e : end - from ≡ 0 = omega arith in
-    ap (λ (n : ℕ). take n (drop from book)) e
-
--- a body on its way
-pub record BodyPut (a : List ℕ) (at : ℕ) (book : List ℕ) (start end : ℕ) (b : List ℕ) (to from : ℕ) : Type 0 where
-  pub reached : from ≤ end
-  pub inside : end ≤ length book
-  pub place : to + (end - from) ≤ length a
-  pub putting : Putting a at (bytes_between book start end) b to (bytes_between book from end)
-
-module _ {a : List ℕ} {at : ℕ} {book : List ℕ} {start end : ℕ} where
-  pub body-starts : start ≤ end → end ≤ length book → at + (end - start) ≤ length a → BodyPut a at book start end a at start
-  body-starts o i r = record { reached = o; inside = i; place = r; putting = putting-starts a at (bytes_between book start end) }
-
-  module _ {b : List ℕ} {to from : ℕ} (k : BodyPut a at book start end b to from) where
-    pub body-on : from < end → BodyPut a at book start end (set b to (get_or book from 0)) (to + 1) (from + 1)
-    body-on l =
-        record {
-          reached = omega arith;
-          inside = k.inside;
-          place = omega (arith, k.place);
-          putting = putting-one (rw (between_first book from end l k.inside) at k.putting);
-        }
-
-    pub body-ends : end ≤ from → BytesPut a at (bytes_between book start end) b
-    body-ends h = putting-ends (rw (between_none book from end h) at k.putting)

@@ -19,10 +19,10 @@ use Rattle.layout.specs.Saved.{good_end, cut_all, kept_bytes, dropped_bytes, Sav
 use Rattle.layout.specs.Salvages.{saved_bytes, ReadsAs, Salvages, AllRead, ComesBack}
 use Rattle.layout.specs.Trips.{BookBytes}
 use Rattle.layout.proofs.Bodies.{body_alike}
-use Rattle.layout.proofs.Cuts.{cut-count, cut-spanned, cut-size, cut-kept, entered-good}
+use Rattle.layout.proofs.Cuts.{cut-count, cut-spanned, cut-size, entered-good}
 use Rattle.layout.proofs.Good.{good-move, sound-good}
-use Rattle.layout.proofs.Laying.{laid-length, laid-size}
-use Rattle.layout.proofs.Layouts.{sound-laid, sound-keyed, Keyed, bodies_from, screens-count, Screens, laid-form, laid-bodies, laid-contents}
+use Rattle.layout.proofs.Laying.{screens-count, laid-length, laid-size}
+use Rattle.layout.proofs.Layouts.{sound-laid, sound-keyed, Keyed, bodies_from, Screens, laid-form, laid-bodies, laid-contents}
 use Rattle.layout.proofs.Puts.{between-length}
 
 -- a book that was saved: from a sound one, and what was laid out
@@ -79,8 +79,7 @@ cut-screens p book bytes {bs} h =
     let b = sound-book book h in
     let n = screens-count book (cut_all p book bs) in
     let m = cut-count p book bs in
-    let e = laid-size _ book (cut-spanned p book h) (is_two book) in
-    let f = ap (λ (ks : List Kept). length (laid_out (is_two book) ks)) (cut-kept p book h) in
+    let e = laid-size book (cut_all p book bs) (cut-spanned p book h).within (is_two book) in
     let g = cut-size p book h in
     record {
       some = omega (arith, b.opens.some);

@@ -1,195 +1,161 @@
--- The screens of a book by its tables, taken one after the other: their bytes added up, their entries and bodies put, their keys compared.
-use mathlib.Core.Path.{◌≡◌, refl, ap, sym, subst, ◌∙◌}
-use mathlib.Core.Bool.{Bool, true, false, ◌&&◌}
-use mathlib.Core.List.{List, ◌++◌}
+-- The screens of a book taken one after the other: their bytes added up, their entries and bodies put, their keys compared.
+use mathlib.Core.Path.{◌≡◌, refl, ap, sym, ◌∙◌}
+use mathlib.Core.Bool.{Bool, true, false}
+use mathlib.Core.List.{List, [], ◌∷◌}
 use Prim.Native.Nat.{ℕ, suc, ◌+◌, ◌-◌, ◌*◌, ◌<◌, ◌≤◌}
 use native.Mathlib.Nat.{add_assoc, add-zero}
 use native.Mathlib.Omega.{arith}
-use lib.Dec.{eqb}
-use lib.ListN.{length, get_or}
-use lib.Seq.{sets}
-use Rattle.contents.specs.declared.open.Spans.{Spans}
-use Rattle.contents.specs.Contents.{entries_at, entry_size, first_body}
-use Rattle.contents.proofs.Entries.{entry-room, next-entry, first_entry}
-use Rattle.layout.specs.Laid.{entry_bytes, bodies_laid, bytes_between}
-use Rattle.layout.specs.Ready.{BytesPut, kept_from, kept_in, sizes_from, keys_numbered, entries_for, laid_size, Spanned, Layable}
+use lib.ListN.{length, get_or, drop, drop_of_length-le}
+use lib.Seq.{sets, drop-cons}
+use Rattle.std.proofs.lemmas.List.{length-map}
+use Rattle.contents.specs.declared.spans.Span.{Span}
+use Rattle.contents.specs.Contents.{Body, entries_at, entry_size, first_body}
+use Rattle.contents.specs.Replies.{body, bodies}
+use Rattle.layout.specs.Laid.{entry_bytes, bodies_laid, bytes_between, screens_of}
+use Rattle.layout.specs.Ready.{BytesPut, sizes_of, entries_for, laid_size, Within, Spanned, Layable}
 use Rattle.layout.proofs.Puts.{Putting, putting-more, putting-ends, entry_length, between-length}
 
+-- the screens from one on: that one, and those behind it; none behind the last
+abbrev pub no_span : Span
+no_span = record { key = 0; start = 0; end = 0 }
+
+pub span-here : (ss : List Span) (i : ℕ) → i < length ss → bodies (drop i ss) ≡ body (get_or ss i no_span) ∷ bodies (drop (i + 1) ss)
+span-here ss i l =
+    let e : suc i ≡ i + 1 = omega arith in
+    ap bodies (drop-cons ss i no_span l ∙ ap (λ (n : ℕ). get_or ss i no_span ∷ drop n ss) e)
+
+pub no_span-left : (ss : List Span) (i : ℕ) → length ss ≤ i → bodies (drop i ss) ≡ []
+no_span-left ss i l = ap bodies (drop_of_length-le ss l)
+
+pub spans-count : (ss : List Span) → length ss ≡ length (bodies ss)
+spans-count ss = sym (length-map ss body)
+
 -- inside a book of so many bytes, inside one of the most
-pub spanned-wide : {s : Spans} {most : ℕ} → Spanned s most → Spanned s 32768
-spanned-wide k =
-    record { few = k.few; short = omega arith; order = λ i l. k.order i l; inside = λ i l. let h = k.inside i l in omega (arith, k.short) }
+pub spanned-wide : {bs : List Body} {most : ℕ} → Spanned bs most → Spanned bs 32768
+spanned-wide {bs} {most} k = record { few = k.few; short = omega arith; within = go bs k.within }
+  where
+    go : (cs : List Body) → Within most cs → Within 32768 cs
+    go [] w = tt
+    go (c ∷ cs) w = (w.0, (omega (arith, w.1.0, k.short), go cs w.1.1))
 
 first-few : (two : Bool) (n : ℕ) → n ≤ 64 → first_body two n ≤ 386
 first-few true n h = omega arith
 first-few false n h = omega arith
 
-module _ (s : Spans) where
-  -- the bytes of body i
-  abbrev size_at : ℕ → ℕ
-  size_at i = get_or s.ends i 0 - get_or s.starts i 0
-
-  module _ (count i : ℕ) (on : i < count) where
-    left : count - i ≡ suc (count - (i + 1))
-    left = omega arith
-
-    sizes-on : sizes_from s (count - i) i ≡ size_at i + sizes_from s (count - (i + 1)) (i + 1)
-    unfolding sizes_from
-    sizes-on = ap (λ (n : ℕ). sizes_from s n i) left
-
-    entries-on : (two : Bool) (start : ℕ) → entries_for two s (count - i) i start
-        ≡ entry_bytes two (get_or s.keys i 0) start (size_at i) ++ entries_for two s (count - (i + 1)) (i + 1) (start + size_at i)
-    unfolding entries_for
-    entries-on two start = ap (λ (n : ℕ). entries_for two s n i start) left
-
-    bodies-on : (book : List ℕ) → bodies_laid (kept_from s book (count - i) i)
-        ≡ bytes_between book (get_or s.starts i 0) (get_or s.ends i 0) ++ bodies_laid (kept_from s book (count - (i + 1)) (i + 1))
-    unfolding bodies_laid kept_from
-    bodies-on book = ap (λ (n : ℕ). bodies_laid (kept_from s book n i)) left
-
-    keys_on : keys_numbered s (count - i) i ≡ (eqb (get_or s.keys i 0) i && keys_numbered s (count - (i + 1)) (i + 1))
-    unfolding keys_numbered
-    keys_on = ap (λ (n : ℕ). keys_numbered s n i) left
-
-  none_left : (count i : ℕ) → count ≤ i → count - i ≡ 0
-  none_left count i h = omega arith
-
-  all_left : (count : ℕ) → count - 0 ≡ count
-  all_left count = omega arith
+sizes-few : (bs : List Body) → Within 32768 bs → sizes_of bs ≤ 32768 * length bs
+unfolding sizes_of
+sizes-few [] w = omega arith
+sizes-few (b ∷ bs) w = let h = sizes-few bs w.1.1 in omega (arith, w.1.0)
 
 -- the bytes added up
-pub record Summing (two : Bool) (s : Spans) (size i : ℕ) : Type 0 where
-  pub before : i ≤ s.count
-  pub few : size ≤ 386 + 32768 * i
-  pub sum : size + sizes_from s (s.count - i) i ≡ laid_size two s
+pub record Summing (two : Bool) (bs : List Body) (size : ℕ) (left : List Body) : Type 0 where
+  pub few : laid_size two bs ≤ 2097538
+  pub within : Within 32768 left
+  pub sum : size + sizes_of left ≡ laid_size two bs
 
-module _ (two : Bool) (s : Spans) (k : Spanned s 32768) where
-  pub summing-starts : {size : ℕ} → size ≡ first_body two s.count → Summing two s size 0
-  summing-starts {size} e =
-      record {
-        before = omega arith;
-        few = let f = first-few two s.count k.few in omega arith;
-        sum = λ j. e j + sizes_from s (all_left s s.count j) 0;
-      }
+pub summing-starts : (two : Bool) (bs : List Body) {size : ℕ} → Spanned bs 32768 → size ≡ first_body two (length bs) → Summing two bs size bs
+summing-starts two bs k e =
+    record {
+      few = let h = sizes-few bs k.within in let f = first-few two (length bs) k.few in omega (arith, k.few);
+      within = k.within;
+      sum = ap (λ (n : ℕ). n + sizes_of bs) e;
+    }
 
-  module _ {size i : ℕ} (p : Summing two s size i) where
-    pub summing_on : i < s.count → Summing two s (size + size_at s i) (i + 1)
-    summing_on l =
-        record {
-          before = omega arith;
-          few = let h = k.inside i l in omega (arith, p.few);
-          sum = add_assoc size (size_at s i) (sizes_from s (s.count - (i + 1)) (i + 1)) ∙ ap (λ (n : ℕ). size + n) (sym (sizes-on s s.count i l)) ∙ p.sum;
-        }
+module _ {two : Bool} {bs : List Body} {size : ℕ} where
+  pub summing-room : {b : Body} {left : List Body} → Summing two bs size (b ∷ left) → (b.start ≤ b.end) × (size + (b.end - b.start) ≤ 2097538)
+  unfolding sizes_of
+  summing-room k = (k.within.0, omega (arith, k.sum, k.few))
 
-    pub summing-ends : s.count ≤ i → size ≡ laid_size two s
-    unfolding sizes_from
-    summing-ends h = sym (add-zero size) ∙ ap (λ (n : ℕ). size + sizes_from s n i) (sym (none_left s s.count i h)) ∙ p.sum
+  pub summing_on : {b : Body} {left : List Body} → Summing two bs size (b ∷ left) → Summing two bs (size + (b.end - b.start)) left
+  unfolding sizes_of
+  summing_on {b} {left} k = record { few = k.few; within = k.within.1.1; sum = add_assoc size (b.end - b.start) (sizes_of left) ∙ k.sum }
+
+  pub summing-ends : Summing two bs size [] → size ≡ laid_size two bs
+  unfolding sizes_of
+  summing-ends k = sym (add-zero size) ∙ k.sum
+
+one : (two : Bool) (at n : ℕ) → at + entry_size two * suc n ≡ at + entry_size two + entry_size two * n
+one true at n = omega arith
+one false at n = omega arith
 
 -- the entries put
-pub record EntriesPut (two : Bool) (s : Spans) (a b : List ℕ) (at start i : ℕ) : Type 0 where
-  pub before : i ≤ s.count
-  pub place : at ≡ entries_at two + entry_size two * i
-  pub sum : start + sizes_from s (s.count - i) i ≡ laid_size two s
-  pub putting : Putting a (entries_at two) (entries_for two s s.count 0 (first_body two s.count)) b at (entries_for two s (s.count - i) i start)
+pub record EntriesPut (two : Bool) (bs : List Body) (a b : List ℕ) (at start : ℕ) (left : List Body) : Type 0 where
+  pub place : at + entry_size two * length left ≤ length a
+  pub within : Within 32768 left
+  pub sum : start + sizes_of left ≤ 32768
+  pub putting : Putting a (entries_at two) (entries_for two bs (first_body two (length bs))) b at (entries_for two left start)
 
-module _ {two : Bool} {s : Spans} {a : List ℕ} (k : Layable two s 32768 (length a)) where
-  pub entries-starts : {at start : ℕ} → at ≡ entries_at two → start ≡ first_body two s.count → EntriesPut two s a a at start 0
-  entries-starts e f =
+module _ {two : Bool} {bs : List Body} {a : List ℕ} where
+  pub entries-starts : Layable two bs 32768 (length a) → {at start : ℕ} → at ≡ entries_at two → start ≡ first_body two (length bs) → EntriesPut two bs a a at start bs
+  entries-starts k {at} {start} e f =
       record {
-        before = omega arith;
-        place = e ∙ first_entry two;
-        sum = λ j. f j + sizes_from s (all_left s s.count j) 0;
-        putting = record { rest = λ j. sets a (e j) (entries_for two s (all_left s s.count j) 0 (f j)); kept = refl };
+        place = let g : at + entry_size two * length bs ≡ first_body two (length bs) = ap (λ (n : ℕ). n + entry_size two * length bs) e in omega (arith, g, k.lent);
+        within = k.spanned.within;
+        sum = let g : start + sizes_of bs ≡ laid_size two bs = ap (λ (n : ℕ). n + sizes_of bs) f in omega (arith, g, k.fits);
+        putting = record { rest = λ j. sets a (e j) (entries_for two bs (f j)); kept = refl };
       }
 
-  module _ {b : List ℕ} {at start i : ℕ} (p : EntriesPut two s a b at start i) where
-    pub entries-room : i < s.count → (at + entry_size two ≤ length b) × (start ≤ 32768) × (size_at s i ≤ 32768)
-    entries-room l =
-        let f : first_body two s.count ≤ length a = omega (arith, k.lent) in
-        let g = p.putting.kept in
-        let h = entry-room two s.count i at (length a) p.place l f in
-        let q = k.spanned.inside i l in
-        (omega arith, omega (arith, p.sum, k.fits), omega arith)
+  module _ {b : List ℕ} {at start : ℕ} where
+    pub entries-room : {c : Body} {left : List Body} → EntriesPut two bs a b at start (c ∷ left)
+        → (c.start ≤ c.end) × ((at + entry_size two ≤ length b) × ((start ≤ 32768) × (start + (c.end - c.start) ≤ 32768)))
+    unfolding sizes_of
+    entries-room {c} {left} p =
+        let g = one two at (length left) in
+        (p.within.0, (omega (arith, g, p.place, p.putting.kept), (omega (arith, p.sum), omega (arith, p.sum))))
 
-    pub entries_next : i < s.count → {c : List ℕ} {step : ℕ} → BytesPut b at (entry_bytes two (get_or s.keys i 0) start (size_at s i)) c → step ≡ entry_size two
-        → EntriesPut two s a c (at + step) (start + size_at s i) (i + 1)
-    entries_next l {c} {step} h e =
+    pub entries_next : {c : Body} {left : List Body} → EntriesPut two bs a b at start (c ∷ left) → {d : List ℕ} {step : ℕ}
+        → BytesPut b at (entry_bytes two c.key start (c.end - c.start)) d → step ≡ entry_size two → EntriesPut two bs a d (at + step) (start + (c.end - c.start)) left
+    unfolding sizes_of entries_for
+    entries_next {c} {left} p {d} {step} h e =
         record {
-          before = omega arith;
-          place = ap (λ (n : ℕ). at + n) e ∙ next-entry two i at p.place;
-          sum = add_assoc start (size_at s i) (sizes_from s (s.count - (i + 1)) (i + 1)) ∙ ap (λ (n : ℕ). start + n) (sym (sizes-on s s.count i l)) ∙ p.sum;
-          putting = putting-more h (ap (λ (ys : List ℕ). sets b at ys) (sym (entries-on s s.count i l two start)) ∙ p.putting.rest) p.putting.kept
-              (ap (λ (n : ℕ). at + n) (e ∙ sym (entry_length two (get_or s.keys i 0) start (size_at s i))));
+          place = let g = one two at (length left) in omega (arith, g, p.place, ap (λ (n : ℕ). at + n) e);
+          within = p.within.1.1;
+          sum = omega (arith, p.sum);
+          putting = putting-more h p.putting.rest p.putting.kept (ap (λ (n : ℕ). at + n) (e ∙ sym (entry_length two c.key start (c.end - c.start))));
         }
 
-    pub entries-ends : s.count ≤ i → BytesPut a (entries_at two) (entries_for two s s.count 0 (first_body two s.count)) b
+    pub entries-ends : EntriesPut two bs a b at start [] → BytesPut a (entries_at two) (entries_for two bs (first_body two (length bs))) b
     unfolding entries_for
-    entries-ends h =
-        putting-ends
-        (subst (λ (n : ℕ). Putting a (entries_at two) (entries_for two s s.count 0 (first_body two s.count)) b at (entries_for two s n i start)) (none_left s s.count i h) p.putting)
+    entries-ends p = putting-ends p.putting
 
 -- the bodies put
-pub record BodiesPut (two : Bool) (s : Spans) (book a b : List ℕ) (at i : ℕ) : Type 0 where
-  pub before : i ≤ s.count
-  pub sum : at + sizes_from s (s.count - i) i ≡ laid_size two s
-  pub putting : Putting a (first_body two s.count) (bodies_laid (kept_in s book)) b at (bodies_laid (kept_from s book (s.count - i) i))
+pub record BodiesPut (two : Bool) (bs : List Body) (book a b : List ℕ) (at : ℕ) (left : List Body) : Type 0 where
+  pub within : Within (length book) left
+  pub room : at + sizes_of left ≤ length a
+  pub putting : Putting a (first_body two (length bs)) (bodies_laid (screens_of book bs)) b at (bodies_laid (screens_of book left))
 
-module _ {two : Bool} {s : Spans} {book a : List ℕ} (k : Layable two s (length book) (length a)) where
-  pub bodies-starts : {at : ℕ} → at ≡ first_body two s.count → BodiesPut two s book a a at 0
-  bodies-starts e =
+module _ {two : Bool} {bs : List Body} {book a : List ℕ} where
+  pub bodies-starts : Layable two bs (length book) (length a) → {at : ℕ} → at ≡ first_body two (length bs) → BodiesPut two bs book a a at bs
+  bodies-starts k {at} e =
       record {
-        before = omega arith;
-        sum = λ j. e j + sizes_from s (all_left s s.count j) 0;
-        putting = record { rest = λ j. sets a (e j) (bodies_laid (kept_from s book (all_left s s.count j) 0)); kept = refl };
+        within = k.spanned.within;
+        room = let g : at + sizes_of bs ≡ laid_size two bs = ap (λ (n : ℕ). n + sizes_of bs) e in omega (arith, g, k.lent);
+        putting = record { rest = λ j. sets a (e j) (bodies_laid (screens_of book bs)); kept = refl };
       }
 
-  module _ {b : List ℕ} {at i : ℕ} (p : BodiesPut two s book a b at i) where
-    pub bodies-room : i < s.count → (get_or s.starts i 0 ≤ get_or s.ends i 0) × (get_or s.ends i 0 ≤ length book) × (at + size_at s i ≤ length b)
-    bodies-room l =
-        let e = sizes-on s s.count i l in
-        (k.spanned.order i l, k.spanned.inside i l, omega (arith, p.sum, p.putting.kept, k.lent))
+  module _ {b : List ℕ} {at : ℕ} where
+    pub bodies-room : {c : Body} {left : List Body} → BodiesPut two bs book a b at (c ∷ left)
+        → (c.start ≤ c.end) × (c.end ≤ length book) × (at + (c.end - c.start) ≤ length b)
+    unfolding sizes_of
+    bodies-room p = (p.within.0, p.within.1.0, omega (arith, p.room, p.putting.kept))
 
-    pub bodies-next : i < s.count → {c : List ℕ} → BytesPut b at (bytes_between book (get_or s.starts i 0) (get_or s.ends i 0)) c → BodiesPut two s book a c (at + size_at s i) (i + 1)
-    bodies-next l {c} h =
+    pub bodies-next : {c : Body} {left : List Body} → BodiesPut two bs book a b at (c ∷ left) → {d : List ℕ} → BytesPut b at (bytes_between book c.start c.end) d
+        → BodiesPut two bs book a d (at + (c.end - c.start)) left
+    unfolding sizes_of bodies_laid
+    bodies-next {c} {left} p {d} h =
         record {
-          before = omega arith;
-          sum = add_assoc at (size_at s i) (sizes_from s (s.count - (i + 1)) (i + 1)) ∙ ap (λ (n : ℕ). at + n) (sym (sizes-on s s.count i l)) ∙ p.sum;
-          putting = putting-more h (ap (λ (ys : List ℕ). sets b at ys) (sym (bodies-on s s.count i l book)) ∙ p.putting.rest) p.putting.kept
-              (ap (λ (n : ℕ). at + n) (sym (between-length book (get_or s.starts i 0) (get_or s.ends i 0) (k.spanned.order i l) (k.spanned.inside i l))));
+          within = p.within.1.1;
+          room = omega (arith, p.room);
+          putting = putting-more h p.putting.rest p.putting.kept (ap (λ (n : ℕ). at + n) (sym (between-length book c.start c.end p.within.0 p.within.1.0)));
         }
 
-    pub bodies-ends : s.count ≤ i → BytesPut a (first_body two s.count) (bodies_laid (kept_in s book)) b
-    unfolding bodies_laid kept_from
-    bodies-ends h =
-        putting-ends
-        (subst (λ (n : ℕ). Putting a (first_body two s.count) (bodies_laid (kept_in s book)) b at (bodies_laid (kept_from s book n i))) (none_left s s.count i h) p.putting)
-
--- the keys compared
-pub record Numbering (s : Spans) (i : ℕ) : Type 0 where
-  pub before : i ≤ s.count
-  pub same : keys_numbered s (s.count - i) i ≡ keys_numbered s s.count 0
-
-module _ {s : Spans} where
-  pub numbering-starts : Numbering s 0
-  numbering-starts = record { before = omega arith; same = ap (λ (n : ℕ). keys_numbered s n 0) (all_left s s.count) }
-
-  module _ {i : ℕ} (p : Numbering s i) where
-    told : (l : i < s.count) (v : Bool) → eqb (get_or s.keys i 0) i ≡ v → (v && keys_numbered s (s.count - (i + 1)) (i + 1)) ≡ keys_numbered s s.count 0
-    told l v e = ap (λ (t : Bool). t && keys_numbered s (s.count - (i + 1)) (i + 1)) (sym e) ∙ sym (keys_on s s.count i l) ∙ p.same
-
-    pub numbering-other : i < s.count → eqb (get_or s.keys i 0) i ≡ false → false ≡ keys_numbered s s.count 0
-    numbering-other l e = told l false e
-
-    pub numbering-on : i < s.count → eqb (get_or s.keys i 0) i ≡ true → Numbering s (i + 1)
-    numbering-on l e = record { before = omega arith; same = told l true e }
-
-    pub numbering-ends : s.count ≤ i → true ≡ keys_numbered s s.count 0
-    unfolding keys_numbered
-    numbering-ends h = ap (λ (n : ℕ). keys_numbered s n i) (sym (none_left s s.count i h)) ∙ p.same
+    pub bodies-ends : BodiesPut two bs book a b at [] → BytesPut a (first_body two (length bs)) (bodies_laid (screens_of book bs)) b
+    unfolding bodies_laid
+    bodies-ends p = putting-ends p.putting
 
 -- the output has room for the first bytes
-pub head-room : {two : Bool} {s : Spans} {most : ℕ} (room : ℕ) → Layable two s most room → (entries_at two ≤ room) × (s.count < 256)
-head-room {two} {s} room k = (omega (arith, k.lent, at_least two s.count), omega (arith, k.spanned.few))
+pub head-room : {two : Bool} {bs : List Body} {most : ℕ} (room : ℕ) → Layable two bs most room → (entries_at two ≤ room) × (length bs < 256)
+head-room {two} {bs} room k = (omega (arith, k.lent, at_least two (length bs)), omega (arith, k.spanned.few))
   where
     at_least : (two : Bool) (n : ℕ) → entries_at two ≤ first_body two n
     at_least two n = omega arith

@@ -12,15 +12,15 @@ use Rattle.state.specs.declared.panel.Panel.{Panel}
 use Rattle.state.specs.State.{valid_panel}
 use Rattle.contents.specs.Contents.{Body, Contents, sound, wrong, is_two, contents_of, entries_at, first_body}
 use Rattle.contents.proofs.Soundness.{sound-book}
-use Rattle.layout.specs.declared.reading.BodiesRead.{BodiesRead}
-use Rattle.layout.specs.declared.reading.BodiesRead.TheVariants.{Plain, And, Faulty}
+use Rattle.layout.specs.BodiesRead.{BodiesRead}
+use Rattle.layout.specs.BodiesRead.{Plain, And, Faulty}
 use Rattle.layout.specs.Uses.{bodies_read}
 use Rattle.layout.specs.Laid.{Kept, laid_out, screens_of}
 use Rattle.layout.specs.Moved.{moved_all, not_moved, fitted, fitted_up, up_read, up_in, up_of, numbered_from, down_in, down_of}
 use Rattle.layout.specs.Trips.{moved_bytes, BookBytes, UpDown, DownUp}
-use Rattle.layout.proofs.Laying.{laid-length}
+use Rattle.layout.proofs.Laying.{screens-count, laid-length}
 use Rattle.layout.proofs.Bodies.{bodies-move}
-use Rattle.layout.proofs.Layouts.{sound-laid, sound-keyed, Keyed, numbered-rising, numbered-keyed, keyed-numbered, bodies_from, screens-count, Screens, laid-form, laid-bodies, laid-contents, laid-screens}
+use Rattle.layout.proofs.Layouts.{sound-laid, sound-keyed, Keyed, numbered-rising, numbered-keyed, keyed-numbered, bodies_from, Screens, laid-form, laid-bodies, laid-contents, laid-screens}
 
 -- a book that fitted is what was laid out
 fitted-bytes : (laid out : List ℕ) → (fitted laid out).reply.number ≡ 0 → moved_bytes (fitted laid out) ≡ laid

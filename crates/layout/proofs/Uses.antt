@@ -1,29 +1,27 @@
--- The bodies of a book read on a panel: one after the other, by the tables and by the contents.
+-- The bodies of a book read on a panel, one after the other.
 use mathlib.Core.Path.{◌≡◌, refl, ap, sym, ◌∙◌}
 use mathlib.Core.Bool.{Bool, true, false, cond, ◌||◌}
 use mathlib.Core.List.{List, [], ◌∷◌}
-use Prim.Native.Nat.{ℕ, suc, ◌+◌, ◌-◌, ◌<◌, ◌≤◌}
+use Prim.Native.Nat.{ℕ, ◌+◌, ◌-◌}
 use native.Mathlib.Omega.{arith}
-use lib.ListN.{length, get_or}
 use Rattle.state.specs.declared.panel.Panel.{Panel}
-use Rattle.contents.specs.declared.open.Spans.{Spans}
 use Rattle.contents.specs.Contents.{Body}
-use Rattle.contents.proofs.Spanning.{Stands, first-start, first-end, stands_on}
 use Rattle.book.specs.declared.operation.Placed.{Placed}
 use Rattle.book.specs.declared.operation.Placed.TheVariants.{Text, Rectangle, Dot, Glyph, Cursor, Combine}
-use Rattle.book.specs.declared.operation.Found.{Found}
-use Rattle.book.specs.declared.operation.Found.TheVariants.{Operation as Found-Operation, End, Faulty as Found-Faulty}
+use Rattle.book.specs.Replies.{Found, Operation as Found-Operation, End, Faulty as Found-Faulty}
 use Rattle.book.specs.Operation.{Operation, operation_of, found_at}
 use Rattle.book.specs.Range.{FoundOperation}
-use Rattle.book.specs.Screen.{Screen, screen, refused, with_operation, operations_from}
+use Rattle.book.specs.Screen.{Screen, screen, refused as screen_refused, with_operation, operations_from}
 use Rattle.book.proofs.Finding.{found-operation}
 use Rattle.book.proofs.Walking.{walk-on, walk_end, walk-faulty}
-use Rattle.layout.specs.declared.reading.BodyRead.{BodyRead}
-use Rattle.layout.specs.declared.reading.BodyRead.TheVariants.{Plain as Body-Plain, And as Body-And, Faulty as Body-Faulty}
-use Rattle.layout.specs.declared.reading.BodiesRead.{BodiesRead}
-use Rattle.layout.specs.declared.reading.BodiesRead.TheVariants.{Plain}
-use Rattle.layout.specs.Uses.{is_and, uses_and, body_read, read_before, bodies_read}
-use Rattle.layout.specs.Ready.{placed_and, read_from}
+use Rattle.std.specs.Option.{option_or}
+use Rattle.std.specs.Prelude.{Option, Some, None, Ok, Err}
+use Rattle.state.specs.declared.refusal.Refused.{Refused}
+use Rattle.state.specs.declared.refusal.Refusal.TheVariants.{WrongOperation}
+use Rattle.layout.specs.BodyRead.{BodyRead, Plain as Body-Plain, And as Body-And, Faulty as Body-Faulty, reads_one}
+use Rattle.layout.specs.BodiesRead.{BodiesRead, Plain, And, Faulty, reads}
+use Rattle.layout.specs.Uses.{is_and, uses_and, body_read, and_before, read_before, bodies_read}
+use Rattle.layout.specs.Ready.{placed_and}
 
 placed-and : (book : List ℕ) (o : Placed) → placed_and o ≡ is_and (operation_of book o)
 placed-and book (Text line column from n) = refl
@@ -36,17 +34,17 @@ placed-and book (Combine k) = refl
 -- with what was read before
 abbrev body_on : Bool → Screen → BodyRead
 body_on uses (screen os) = cond (uses || uses_and os) Body-And Body-Plain
-body_on uses (refused n place) = Body-Faulty place
+body_on uses (screen_refused n place) = Body-Faulty place
 
 none_yet : (x : Screen) → body_on false x ≡ body_read x
 none_yet (screen os) = refl
-none_yet (refused n place) = refl
+none_yet (screen_refused n place) = refl
 
 one_more : (uses : Bool) {a : Bool} (o : Operation) (x : Screen) → a ≡ is_and o → body_on (uses || a) x ≡ body_on uses (with_operation o x)
 unfolding uses_and
 one_more true o (screen os) e = refl
 one_more false o (screen os) e = ap (λ (t : Bool). cond (t || uses_and os) Body-And Body-Plain) e
-one_more uses o (refused n place) e = refl
+one_more uses o (screen_refused n place) e = refl
 
 -- what is left of a body read as the whole
 pub record BodyReading (p : Panel) (book : List ℕ) (start end at : ℕ) (uses : Bool) : Type 0 where
@@ -81,39 +79,63 @@ module _ (p : Panel) (book : List ℕ) (start end : ℕ) where
     pub reading-faulty : f ≡ Found-Faulty → Body-Faulty at ≡ body_read (operations_from (end - start) p book start end)
     reading-faulty e = ap (body_on uses) (sym (walk-faulty p book end at (sym i ∙ e))) ∙ k.left
 
--- the bodies behind one, read
-pub record BodiesReading (p : Panel) (s : Spans) (book : List ℕ) (i : ℕ) (rest : BodiesRead) : Type 0 where
-  pub before : i ≤ s.count
-  pub same : rest ≡ read_from p s book (s.count - i) i
+-- whether a body uses AND, read to its end
+pub uses-read : (u : Bool) → Ok u ≡ reads_one (cond u Body-And Body-Plain)
+uses-read true = refl
+uses-read false = refl
 
-module _ (p : Panel) (s : Spans) (book : List ℕ) where
-  pub bodies-none : BodiesReading p s book s.count Plain
-  unfolding read_from
-  bodies-none =
-      let z : 0 ≡ s.count - s.count = omega arith in
-      record { before = omega arith; same = ap (λ (n : ℕ). read_from p s book n s.count) z }
+-- what is left of the bodies, behind the first screen that uses AND
+abbrev pub joined : Option ℕ → BodiesRead → BodiesRead
+joined None x = x
+joined (Some i) x = and_before i x
 
-  pub bodies-one : {i : ℕ} {rest r : BodiesRead} {here : BodyRead} → BodiesReading p s book i rest → 0 < i
-      → here ≡ body_read (operations_from (get_or s.ends (i - 1) 0 - get_or s.starts (i - 1) 0) p book (get_or s.starts (i - 1) 0) (get_or s.ends (i - 1) 0))
-      → r ≡ read_before here (i - 1) rest → BodiesReading p s book (i - 1) r
-  unfolding read_from
-  bodies-one {i} {rest} {r} {here} k l h e =
-      let c = k.before in
-      let n : suc (s.count - i) ≡ s.count - (i - 1) = omega arith in
-      let j : i ≡ i - 1 + 1 = omega arith in
-      record {
-        before = omega arith;
-        same = e ∙ (λ t. read_before (h t) (i - 1) ((k.same ∙ ap (read_from p s book (s.count - i)) j) t)) ∙ ap (λ (m : ℕ). read_from p s book m (i - 1)) n;
-      }
+joined_and : (first : Option ℕ) (i : ℕ) (x : BodiesRead) → joined (option_or first (Some i)) x ≡ joined first (and_before i x)
+joined_and None i x = refl
+joined_and (Some j) i Plain = refl
+joined_and (Some j) i (And k) = refl
+joined_and (Some j) i (Faulty place) = refl
 
-  pub bodies-all : {i : ℕ} {rest : BodiesRead} → BodiesReading p s book i rest → i ≤ 0 → rest ≡ read_from p s book s.count 0
-  bodies-all {i} k l =
-      let z : i ≡ 0 = omega arith in
-      k.same ∙ (λ t. read_from p s book (s.count - z t) (z t)) ∙ ap (λ (n : ℕ). read_from p s book n 0) (let q : s.count - 0 ≡ s.count = omega arith in q)
+joined_faulty : (first : Option ℕ) (place : ℕ) → Faulty place ≡ joined first (Faulty place)
+joined_faulty None place = refl
+joined_faulty (Some j) place = refl
 
--- by the tables as by the contents
-pub stands_read : {s : Spans} (p : Panel) (book : List ℕ) (bs : List Body) (i : ℕ) → Stands s i bs → read_from p s book (length bs) i ≡ bodies_read p book i bs
-unfolding read_from
-stands_read p book [] i k = refl
-stands_read p book (b ∷ bs) i k =
-    λ t. read_before (body_read (operations_from (first-end k t - first-start k t) p book (first-start k t) (first-end k t))) i (stands_read p book bs (i + 1) (stands_on k) t)
+abbrev pub body_reads : Panel → List ℕ → Body → BodyRead
+body_reads p book b = body_read (operations_from (b.end - b.start) p book b.start b.end)
+
+pub record BodiesReading (p : Panel) (book : List ℕ) (bs : List Body) (i : ℕ) (left : List Body) (first : Option ℕ) : Type 0 where
+  pub same : joined first (bodies_read p book i left) ≡ bodies_read p book 0 bs
+
+module _ (p : Panel) (book : List ℕ) (bs : List Body) where
+  pub bodies-start : BodiesReading p book bs 0 bs None
+  bodies-start = record { same = refl }
+
+  module _ {i : ℕ} {b : Body} {left : List Body} {first : Option ℕ} (k : BodiesReading p book bs i (b ∷ left) first) where
+    told : (x : BodyRead) → body_reads p book b ≡ x → joined first (read_before x i (bodies_read p book (i + 1) left)) ≡ bodies_read p book 0 bs
+    told x e = ap (λ (y : BodyRead). joined first (read_before y i (bodies_read p book (i + 1) left))) (sym e) ∙ k.same
+
+    pub bodies-refused : (e : Refused) → Err e ≡ reads_one (body_reads p book b) → Err e ≡ reads (bodies_read p book 0 bs)
+    bodies-refused e q = go (body_reads p book b) refl q
+      where
+        go : (x : BodyRead) → body_reads p book b ≡ x → Err e ≡ reads_one x → Err e ≡ reads (bodies_read p book 0 bs)
+        go Body-Plain h q = let z : ◌≡◌ {A = ℕ} 0 1 = cc in absurd (let y : ⊥ = omega arith in y)
+        go Body-And h q = let z : ◌≡◌ {A = ℕ} 0 1 = cc in absurd (let y : ⊥ = omega arith in y)
+        go (Body-Faulty place) h q = (let r : e ≡ record { refusal = WrongOperation; place = place } = cc in ap (λ (x : Refused). Err x) r) ∙ ap reads (joined_faulty first place ∙ told (Body-Faulty place) h)
+
+    pub bodies-plain : {u : Bool} → Ok u ≡ reads_one (body_reads p book b) → u ≡ false → BodiesReading p book bs (i + 1) left first
+    bodies-plain {u} q f = go (body_reads p book b) refl q
+      where
+        go : (x : BodyRead) → body_reads p book b ≡ x → Ok u ≡ reads_one x → BodiesReading p book bs (i + 1) left first
+        go Body-Plain h q = record { same = told Body-Plain h }
+        go Body-And h q = let z : false ≡ true = cc in absurd (let n : ◌≡◌ {A = ℕ} 0 1 = ap (λ (t : Bool). cond t 1 0) z in let y : ⊥ = omega arith in y)
+        go (Body-Faulty place) h q = let z : ◌≡◌ {A = ℕ} 0 1 = cc in absurd (let y : ⊥ = omega arith in y)
+
+    pub bodies-and : {u : Bool} → Ok u ≡ reads_one (body_reads p book b) → u ≡ true → {f : Option ℕ} → f ≡ option_or first (Some i) → BodiesReading p book bs (i + 1) left f
+    bodies-and {u} q t {f} m = go (body_reads p book b) refl q
+      where
+        go : (x : BodyRead) → body_reads p book b ≡ x → Ok u ≡ reads_one x → BodiesReading p book bs (i + 1) left f
+        go Body-And h q = record { same = ap (λ (o : Option ℕ). joined o (bodies_read p book (i + 1) left)) m ∙ joined_and first i (bodies_read p book (i + 1) left) ∙ told Body-And h }
+        go Body-Plain h q = let z : true ≡ false = cc in absurd (let n : ◌≡◌ {A = ℕ} 1 0 = ap (λ (t : Bool). cond t 1 0) z in let y : ⊥ = omega arith in y)
+        go (Body-Faulty place) h q = let z : ◌≡◌ {A = ℕ} 0 1 = cc in absurd (let y : ⊥ = omega arith in y)
+
+  pub bodies-end : {i : ℕ} {first : Option ℕ} {left : List Body} → BodiesReading p book bs i left first → left ≡ [] → reads (joined first Plain) ≡ reads (bodies_read p book 0 bs)
+  bodies-end {i} {first} k e = ap reads (ap (λ (l : List Body). joined first (bodies_read p book i l)) (sym e) ∙ k.same)

@@ -3,6 +3,8 @@ pub mod Moved
 pub mod Ready
 pub mod Salvages
 pub mod Saved
-pub mod Tables
 pub mod Trips
 pub mod Uses
+pub mod BodyRead
+pub mod BodiesRead
+pub mod Replies

@@ -3,11 +3,16 @@ use Rattle.std.specs.Prelude.{ℕ, ◌+◌, Bool, true, false, cond, ◌&&◌, L
 use Rattle.state.specs.declared.panel.Panel.{Panel}
 use Rattle.state.specs.State.{valid_panel}
 use Rattle.contents.specs.Contents.{Body, Contents, sound, wrong, is_two, contents_of}
-use Rattle.layout.specs.declared.moves.Moved.{Moved}
-use Rattle.layout.specs.declared.reading.BodiesRead.{BodiesRead}
-use Rattle.layout.specs.declared.reading.BodiesRead.TheVariants.{Plain, And, Faulty}
+use Rattle.layout.specs.BodiesRead.{BodiesRead}
+use Rattle.layout.specs.BodiesRead.{Plain, And, Faulty}
 use Rattle.layout.specs.Uses.{bodies_read}
 use Rattle.layout.specs.Laid.{laid_out, screens_of}
+
+-- a number and place, and the bytes of the moved book, 0 where it was refused
+pub record Moved : Type 0 where
+  pub number : ℕ
+  pub place : ℕ
+  pub size : ℕ
 
 -- a reply, and the output
 pub record MovedBook : Type 0 where

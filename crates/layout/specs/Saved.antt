@@ -6,10 +6,8 @@ use Rattle.state.specs.declared.panel.Panel.{Panel}
 use Rattle.state.specs.State.{valid_panel}
 use Rattle.contents.specs.Contents.{Body, Contents, sound, wrong, is_two, contents_of}
 use Rattle.book.specs.declared.operation.Placed.{Placed}
-use Rattle.book.specs.declared.operation.Found.{Found}
-use Rattle.book.specs.declared.operation.Found.TheVariants.{Operation as Found-Operation, End, Faulty}
+use Rattle.book.specs.Replies.{Found, Operation as Found-Operation, End, Faulty}
 use Rattle.book.specs.Operation.{Operation, operation_of, found_at}
-use Rattle.layout.specs.declared.saving.Salvaged.{Salvaged}
 use Rattle.layout.specs.Laid.{laid_out, screens_of}
 use Rattle.layout.specs.Moved.{MovedBook, fitted}
 
@@ -46,6 +44,16 @@ kept_bytes p book (b ∷ bs) = (good_end p book b - b.start) ∷ kept_bytes p bo
 abbrev pub dropped_bytes : Panel → List ℕ → List Body → List ℕ
 dropped_bytes p book [] = []
 dropped_bytes p book (b ∷ bs) = (b.end - good_end p book b) ∷ dropped_bytes p book bs
+
+-- a number and place, the bytes of the saved book, and of each of its screens the bytes kept and dropped. 64 of each, 0 behind the
+-- count; all of it 0 where it was refused
+pub record Salvaged : Type 0 where
+  pub number : ℕ
+  pub place : ℕ
+  pub size : ℕ
+  pub count : ℕ
+  pub kept : List ℕ
+  pub dropped : List ℕ
 
 -- a reply, and the output
 pub record SavedBook : Type 0 where

@@ -3,7 +3,7 @@ use Rattle.std.specs.Prelude.{◌≡◌, List, ℕ, ◌<◌, get_or, take, true}
 use Rattle.state.specs.declared.panel.Panel.{Panel}
 use Rattle.state.specs.State.{valid_panel}
 use Rattle.contents.specs.Contents.{Body, sound, contents_of}
-use Rattle.layout.specs.declared.reading.BodiesRead.TheVariants.{Plain}
+use Rattle.layout.specs.BodiesRead.{Plain}
 use Rattle.layout.specs.Uses.{bodies_read}
 use Rattle.layout.specs.Moved.{MovedBook, fitted, up_of, down_of}
 

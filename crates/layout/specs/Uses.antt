@@ -6,10 +6,10 @@ use Rattle.state.specs.declared.registers.Combination.TheVariants.{Or, Exor, And
 use Rattle.contents.specs.Contents.{Body}
 use Rattle.book.specs.Operation.{Operation, text, rectangle, dot, glyph, cursor, combine}
 use Rattle.book.specs.Screen.{Screen, screen, refused, operations_from}
-use Rattle.layout.specs.declared.reading.BodyRead.{BodyRead}
-use Rattle.layout.specs.declared.reading.BodyRead.TheVariants.{Plain as Body-Plain, And as Body-And, Faulty as Body-Faulty}
-use Rattle.layout.specs.declared.reading.BodiesRead.{BodiesRead}
-use Rattle.layout.specs.declared.reading.BodiesRead.TheVariants.{Plain, And, Faulty}
+use Rattle.layout.specs.BodyRead.{BodyRead}
+use Rattle.layout.specs.BodyRead.{Plain as Body-Plain, And as Body-And, Faulty as Body-Faulty}
+use Rattle.layout.specs.BodiesRead.{BodiesRead}
+use Rattle.layout.specs.BodiesRead.{Plain, And, Faulty}
 
 abbrev pub and_mode : Combination → Bool
 and_mode Or = false

@@ -5,4 +5,5 @@ mod lay;
 pub mod moves;
 mod put;
 mod reading;
+pub mod saved;
 pub mod saving;

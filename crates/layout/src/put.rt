@@ -4,13 +4,15 @@ ghost use Rattle.contents.specs.Contents.{entries_at, entry_size};
 ghost use Rattle.layout.specs.Ready.{BytesPut};
 ghost use Rattle.layout.specs.Laid.{word_bytes, entry_bytes, head_bytes, bytes_between};
 
+// A place beside the output, here and below: each part begins where the last one ended.
 // 16 bits, low byte first.
 fn put_word(out: &mut [u8], at: usize, value: usize)
     requires { (at + 2 ≤ length out.old) × (value < 65536) }
     ensures { BytesPut out.old at (word_bytes value) out.new }
 {
-    out[at] = (value % 256) as u8;
-    out[at + 1] = (value / 256) as u8;
+    let [low, high] = (value as u16).to_le_bytes();
+    out[at] = low;
+    out[at + 1] = high;
 }
 
 // An entry: offset and length, in form two the identity before them.
@@ -41,16 +43,10 @@ pub(crate) fn put_head(out: &mut [u8], two: bool, n: usize)
     }
 }
 
-// A body, byte by byte.
+// A body.
 pub(crate) fn put_body(out: &mut [u8], at: usize, book: &[u8], start: usize, end: usize)
     requires { (start ≤ end) × (end ≤ length book.now) × (at + (end - start) ≤ length out.old) }
     ensures { BytesPut out.old at (bytes_between book.now start end) out.new }
 {
-    let mut to = at;
-    let mut from = start;
-    while from < end {
-        out[to] = book[from];
-        to += 1;
-        from += 1;
-    }
+    out[at..at + (end - start)].copy_from_slice(&book[start..end]);
 }

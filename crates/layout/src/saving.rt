@@ -1,39 +1,26 @@
 // A torn book saved.
-ghost use Rattle.std.specs.Prelude.{◌≡◌, ◌-◌, length};
+ghost use Rattle.std.specs.Prelude.{◌≡◌, ◌-◌, length, take, OnErr};
+ghost use Rattle.std.proofs.lemmas.List.Edits.{sets};
 ghost use Rattle.ground.specs.Lists.{zeros};
-ghost use Rattle.layout.specs.Saved.{good_until, saved_all, salvage_of};
-ghost use Rattle.layout.specs.Tables.{tables_of, cut_spans};
+ghost use Rattle.contents.specs.Replies.{bodies};
+ghost use Rattle.layout.specs.Saved.{good_until, cut_all, kept_bytes, dropped_bytes, saved_all, salvage_of};
 ghost use Rattle.layout.specs.Ready.{Spanned};
+ghost use Rattle.layout.specs.Replies.{kept, dropped, salvaged};
 
 use super::moves::fit;
-use book::operation::{Found, read};
-use contents::open::{Spans, open};
+use super::saved::{Salvaged, Saved};
+use book::operation::read;
+use contents::open::open;
+use contents::spans::Span;
 use state::panel::Panel;
+use state::refusal::{Refusal, Refused};
 
-// A number and place, the bytes of the saved book, and of each of its screens the bytes kept and dropped. 64 of each, 0 behind the count;
-// all of it 0 where it was refused.
-#[derive(Clone, Copy)]
-pub struct Salvaged {
-    pub number: u8,
-    pub place: usize,
-    pub size: usize,
-    pub count: usize,
-    pub kept: [usize; 64],
-    pub dropped: [usize; 64],
-}
-
-// Where each body's good operations end, and the bytes kept and dropped of it.
-#[derive(Clone, Copy)]
-pub(crate) struct Tables {
-    ends: [usize; 64],
-    kept: [usize; 64],
-    dropped: [usize; 64],
-}
-
-fn no_bytes() -> [usize; 64]
-    ensures { result ≡ zeros 64 }
-{
-    [0usize; 64]
+// Two arrays: the spans go on as a slice to what lays any book out, the reports go to the caller.
+// The screens cut behind their good operations, and what is kept and dropped of each.
+#[derive(Clone, Copy, Debug, PartialEq, Eq)]
+struct Torn {
+    spans: [Span; 64],
+    screens: [Saved; 64],
 }
 
 // The byte behind a body's good operations: everything behind the first bad one is dropped, read or not.
@@ -41,98 +28,64 @@ fn good_end(panel: Panel, book: &[u8], start: usize, end: usize) -> usize
     ensures { result ≡ good_until (end - start) panel book.now start end }
 {
     let mut at = start;
+    // a `loop`: each operation says where the next begins, and no index counts them
     loop {
-        let found = read(panel, book, at, end);
-        match found {
-            Found::Operation(_, next) => {
-                at = next;
+        match read(panel, book, at, end) {
+            Ok(Some(standing)) => {
+                at = standing.next;
             }
-            Found::End => return at,
-            Found::Faulty => return at,
+            Ok(None) => return at,
+            Err(_) => return at,
         }
     }
 }
 
-fn tabulate(panel: Panel, book: &[u8], spans: Spans) -> Tables
-    requires { Spanned spans (length book.now) }
-    ensures { result ≡ tables_of panel book.now spans }
+fn cut(panel: Panel, book: &[u8], spans: &[Span]) -> Torn
+    requires { Spanned (bodies spans.now) (length book.now) }
+    ensures spans { bodies (take (length spans.now) result.spans) ≡ cut_all panel book.now (bodies spans.now) }
+    ensures kept { kept result.screens ≡ sets (zeros 64) 0 (kept_bytes panel book.now (bodies spans.now)) }
+    ensures dropped { dropped result.screens ≡ sets (zeros 64) 0 (dropped_bytes panel book.now (bodies spans.now)) }
 {
-    let count = spans.count;
-    let mut ends = no_bytes();
-    let mut kept = no_bytes();
-    let mut dropped = no_bytes();
-    let mut i: usize = 0;
-    while i < count {
-        let start = spans.starts[i];
-        let end = spans.ends[i];
-        let good = good_end(panel, book, start, end);
-        ends[i] = good;
-        kept[i] = good - start;
-        dropped[i] = end - good;
-        i += 1;
+    let mut cut = [Span {
+        key: 0,
+        start: 0,
+        end: 0,
+    }; 64];
+    let mut screens = [Saved {
+        kept: 0,
+        dropped: 0,
+    }; 64];
+    for (i, span) in spans.iter().enumerate() {
+        let good = good_end(panel, book, span.start, span.end);
+        cut[i] = Span { end: good, ..*span };
+        screens[i] = Saved {
+            kept: good - span.start,
+            dropped: span.end - good,
+        };
     }
-    Tables {
-        ends,
-        kept,
-        dropped,
+    Torn {
+        spans: cut,
+        screens,
     }
 }
 
-// The same screens with other ends.
-fn cut(spans: Spans, tables: Tables) -> Spans
-    ensures { result ≡ cut_spans spans tables }
-{
-    let keys = spans.keys;
-    let starts = spans.starts;
-    let ends = tables.ends;
-    Spans {
-        number: 0,
-        place: 0,
-        two: spans.two,
-        count: spans.count,
-        keys,
-        starts,
-        ends,
-    }
-}
-
-fn refuse(number: u8, place: usize) -> Salvaged
-    ensures { result ≡ record { number = number; place = place; size = 0; count = 0; kept = zeros 64; dropped = zeros 64 } }
-{
-    Salvaged {
-        number,
-        place,
-        size: 0,
-        count: 0,
-        kept: no_bytes(),
-        dropped: no_bytes(),
-    }
-}
-
-// A book of either form with sound contents, laid out again with the good operations of each body.
-pub fn salvage(panel: Panel, book: &[u8], out: &mut [u8]) -> Salvaged
-    ensures { saved_all result out.new ≡ salvage_of panel book.now out.old }
+/// A book of either form with sound contents, laid out again with the good operations of each body, at the output's start.
+/// `Invalid`; `WrongBook` as of `open`; `NoRoomForStream` with the bytes needed: then the output is as it was.
+pub fn salvage(panel: Panel, book: &[u8], out: &mut [u8]) -> Result<Salvaged, Refused>
+    ensures value { saved_all (salvaged result) out.new ≡ salvage_of panel book.now out.old }
+    ensures err { OnErr result (out.new ≡ out.old) }
 {
     if !panel.valid() {
-        return refuse(1, 0);
+        return Err(Refusal::Invalid.into());
     }
-    let spans = open(book);
-    if spans.number != 0 {
-        return refuse(9, spans.place);
-    }
-    let tables = tabulate(panel, book, spans);
-    let moved = fit(spans.two, cut(spans, tables), book, out);
-    if moved.number != 0 {
-        return refuse(moved.number, moved.place);
-    }
-    let kept = tables.kept;
-    let dropped = tables.dropped;
-    Salvaged {
-        number: 0,
-        place: 0,
-        size: moved.size,
-        count: spans.count,
-        kept,
-        dropped,
-    }
+    let opened = open(book)?;
+    let spans = opened.all();
+    let torn = cut(panel, book, spans);
+    let good = &torn.spans[..spans.len()];
+    let size = fit(opened.two, good, book, out)?;
+    Ok(Salvaged {
+        size,
+        count: spans.len(),
+        screens: torn.screens,
+    })
 }

@@ -2,204 +2,118 @@
 // kind, byte and refusal number, and what it was in words.
 #![tactic(auto)]
 
-use ground::bytes::lesser;
-use naming::pair::put_words;
+use naming::pair::Words;
 use printed::fill::empty_memory;
 use printed::input::panel_in;
-use report::{STDOUT_FILENO, has_argument, read_exact, read_whole, report};
-use single::access::access;
+use report::{has_argument, read_whole, report};
+use single::step::access;
 use state::panel::Panel;
+use state::refusal::Refusal;
 use state::registers::Registers;
-use state::reply::Acted;
-use words::put::{put_byte, put_decimal, put_hex};
+use std::io::{Cursor, Error, ErrorKind, Read, Result, Write};
 
-// The registers behind the pairs listed, the end of their lines, and the number of the first refused pair.
-#[derive(Clone, Copy)]
-struct Listed {
-    registers: Registers,
-    end: usize,
-    number: u8,
+// The bytes of a part of the log, 1,024 pairs, and the parts that are read at most: 2^43 bytes.
+const PART: usize = 2048;
+
+const PARTS: u64 = 4294967296;
+
+// The number of a refusal, 0 where there is none.
+fn number_of(refusal: Option<Refusal>) -> u8 {
+    refusal.map_or(0, |refusal| refusal.number())
 }
 
-// The same of a part of the log, with the bytes read for it, and whether a read or a write failed.
-#[derive(Clone, Copy)]
-struct Heard {
-    registers: Registers,
-    number: u8,
-    bytes: usize,
-    failed: bool,
-}
-
-// A number and a blank.
-fn put_field(out: &mut [u8], at: usize, n: usize) -> usize {
-    let a = put_decimal(out, at, n);
-    put_byte(out, a, b' ')
-}
-
-fn put_hex_field(out: &mut [u8], at: usize, byte: u8) -> usize {
-    let a = put_hex(out, at, byte);
-    put_byte(out, a, b' ')
-}
-
-// Place, kind and byte.
-fn put_pair(out: &mut [u8], at: usize, place: usize, kind: u8, byte: u8) -> usize {
-    let a = put_field(out, at, place);
-    let b = put_field(out, a, kind as usize);
-    put_hex_field(out, b, byte)
-}
-
-// A pair's line.
-fn put_line(out: &mut [u8], at: usize, place: usize, kind: u8, byte: u8, acted: Acted) -> usize {
-    let registers = acted.registers;
-    let a = put_pair(out, at, place, kind, byte);
-    let b = put_field(out, a, acted.number as usize);
-    let c = put_words(
-        out,
-        b,
-        kind,
-        byte,
-        registers,
-        acted.answer,
-        acted.number == 0,
-    );
-    put_byte(out, c, b'\n')
-}
-
-// The first number that is not 0.
-fn first(number: u8, next: u8) -> u8 {
-    if number == 0 { next } else { number }
-}
-
-// Pair after pair; a refused one changes nothing, and the next is taken all the same.
+// The lines of some pairs, the first at the place `from`, and the first refusal; a refused pair changes nothing, and the next is taken all
+// the same.
 fn list_pairs(
     panel: Panel,
-    before: Registers,
-    refused: u8,
+    registers: &mut Registers,
     memory: &mut [u8],
     rom: &[u8],
     part: &[u8],
     from: usize,
-    out: &mut [u8],
-) -> Listed {
-    let mut registers = before;
-    let mut number = refused;
-    let mut end: usize = 0;
-    let mut i: usize = 0;
-    let total = part.len() / 2;
-    while i < total {
-        let kind = part[2 * i];
-        let byte = part[2 * i + 1];
-        let place = std::num::wrapping_add_usize(from, i);
-        i += 1;
-        let acted = access(panel, registers, memory, rom, kind, byte);
-        end = put_line(out, end, place, kind, byte, acted);
-        registers = acted.registers;
-        number = first(number, acted.number);
+    out: &mut Cursor<&mut [u8]>,
+) -> Result<Option<Refusal>> {
+    let mut first = None;
+    for (i, pair) in part.chunks_exact(2).enumerate() {
+        let kind = pair[0];
+        let byte = pair[1];
+        let access = access(registers, panel, memory, rom, kind, byte);
+        let words = Words {
+            kind,
+            byte,
+            registers: *registers,
+            access,
+        };
+        let place = from.wrapping_add(i);
+        let number = number_of(access.err());
+        writeln!(out, "{place} {kind} {byte:02X} {number} {words}")?;
+        first = first.or(access.err());
     }
-    Listed {
-        registers,
-        end,
-        number,
-    }
+    Ok(first)
 }
 
-// The next part of the log, 1,024 pairs where it is not the last. Their lines have less than 128 characters each; a room that was filled
-// would have lost some.
+// A part of the log listed: its lines have less than 128 characters each, so that they have room.
 fn list_part(
     rt: HostRuntime,
     panel: Panel,
-    before: Registers,
-    refused: u8,
+    registers: &mut Registers,
     memory: &mut [u8],
     rom: &[u8],
+    part: &[u8],
     from: usize,
-) -> Heard {
-    let mut part = [0u8; 2048];
-    let got = read_whole(&mut rt.stdin(), &mut part);
-    if got.failed {
-        return Heard {
-            registers: before,
-            number: refused,
-            bytes: 0,
-            failed: true,
-        };
-    }
-    let count = got.count;
-    let mut out = [0u8; 131072];
-    let listed = list_pairs(
-        panel,
-        before,
-        refused,
-        memory,
-        rom,
-        &part[..count],
-        from,
-        &mut out,
-    );
-    let registers = listed.registers;
-    let end = lesser(listed.end, 131072);
-    let written = io::write_all(STDOUT_FILENO, &out[..end]);
-    Heard {
-        registers,
-        number: listed.number,
-        bytes: count,
-        failed: !written | (end == 131072),
-    }
+) -> Result<Option<Refusal>> {
+    let mut room = [0u8; 131072];
+    let mut out = Cursor::new(&mut room[..]);
+    let first = list_pairs(panel, registers, memory, rom, part, from, &mut out);
+    let end = (out.position() as usize).min(131072);
+    Print::write_all(&rt, &room[..end])?;
+    first
 }
 
-// Part after part, from reset; the last one is shorter than the others. The turns end behind 2^43 bytes.
-fn list_all(rt: HostRuntime, panel: Panel, memory: &mut [u8], rom: &[u8]) -> Heard {
+// Part after part, from reset; the last one is shorter than the others. The refusal of the whole log: 8 where its length is odd, else the
+// first refused pair's.
+fn list_all(
+    rt: HostRuntime,
+    panel: Panel,
+    memory: &mut [u8],
+    rom: &[u8],
+) -> Result<Option<Refusal>> {
     let mut registers = Registers::reset();
-    let mut number: u8 = 0;
-    let mut bytes: usize = 0;
-    let mut turns: usize = 4294967296;
-    while turns > 0 {
-        let heard = list_part(rt, panel, registers, number, memory, rom, bytes / 2);
-        registers = heard.registers;
-        number = heard.number;
-        bytes = std::num::wrapping_add_usize(bytes, heard.bytes);
-        if heard.failed | (heard.bytes < 2048) {
-            return Heard {
-                registers,
-                number,
-                bytes,
-                failed: heard.failed,
-            };
+    let mut first = None;
+    let mut from: usize = 0;
+    for _ in 0..PARTS {
+        let mut part = [0u8; PART];
+        let count = read_whole(&mut rt.stdin(), &mut part)?;
+        let refusal = list_part(rt, panel, &mut registers, memory, rom, &part[..count], from)?;
+        first = first.or(refusal);
+        if count % 2 == 1 {
+            return Ok(Some(Refusal::OddLength));
         }
-        turns -= 1;
+        if count < PART {
+            return Ok(first);
+        }
+        from = from.wrapping_add(PART / 2);
     }
-    Heard {
-        registers,
-        number,
-        bytes,
-        failed: true,
-    }
+    Err(Error::from(ErrorKind::FileTooLarge))
 }
 
-// The number of the whole log: 8 where its length is odd, else the first refused pair's.
-fn told(bytes: usize, number: u8) -> u8 {
-    if bytes % 2 == 0 { number } else { 8 }
+// The log listed, and its refusal number; 1 where the panel is not valid.
+fn list(rt: HostRuntime) -> Result<u8> {
+    let mut rom = [0u8; 1024];
+    rt.stdin().read_exact(&mut rom)?;
+    // what was not read is 0, as a missing byte counts
+    let mut head = [0u8; 3];
+    read_whole(&mut rt.stdin(), &mut head)?;
+    let panel = panel_in(&head, has_argument(&rt, 1));
+    if !panel.valid() {
+        return Ok(Refusal::Invalid.number());
+    }
+    let mut memory = empty_memory();
+    Ok(number_of(list_all(rt, panel, &mut memory, &rom)?))
 }
 
 fn main(rt: HostRuntime) {
-    let mut rom = [0u8; 1024];
-    if !read_exact(&mut rt.stdin(), &mut rom) {
-        return;
-    }
-    let mut head = [0u8; 3];
-    let got = read_whole(&mut rt.stdin(), &mut head);
-    if got.failed {
-        return;
-    }
-    let end = got.count;
-    let panel = panel_in(&head[..end], has_argument(&rt, 1));
-    if !panel.valid() {
-        report(1);
-        return;
-    }
-    let mut memory = empty_memory();
-    let heard = list_all(rt, panel, &mut memory, &rom);
-    if !heard.failed {
-        report(told(heard.bytes, heard.number));
+    if let Ok(number) = list(rt) {
+        report(number);
     }
 }

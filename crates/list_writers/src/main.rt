@@ -2,151 +2,58 @@
 // output a line for each store into that stretch, then how many, then the refusal.
 #![tactic(auto)]
 
-use ground::bytes::{lesser, word};
+use ground::bytes::word;
 use printed::fill::empty_memory;
-use printed::input::{number_in, panel_in};
-use report::{STDOUT_FILENO, has_argument, put_field, read_exact, read_whole, report};
+use printed::input::panel_in;
+use report::{has_argument, put_refusal, read_whole, report};
 use state::panel::Panel;
+use state::refusal::{Refusal, Refused};
 use state::registers::Registers;
-use words::put::{put, put_byte, put_decimal, put_hex, put_word};
+use std::io::{Cursor, Error, ErrorKind, Read, Result, Write};
 use writers::list::list;
 
-// The registers behind the pairs run, the entries listed, the bytes read, a number, and whether a read or a write failed.
+// The bytes of a part of the log, 512 pairs, and the parts that are read at most: 2^42 bytes.
+const PART: usize = 1024;
+
+const PARTS: u64 = 4294967296;
+
+// A list of stores has four numbers for each: its pair, its address, the byte before and the byte after.
+const ENTRY: usize = 4;
+
+// The stores listed, and the refusal at which the list ends.
 #[derive(Clone, Copy)]
-struct Heard {
-    registers: Registers,
+struct Told {
     stores: usize,
-    bytes: usize,
-    number: u8,
-    failed: bool,
+    end: std::result::Result<(), Refused>,
 }
 
-// Each of these answers the place behind what it put; what no longer fits is left out.
-fn put_place(out: &mut [u8], at: usize, pair: usize, address: usize) -> usize {
-    let a = put(out, at, b"pair ");
-    let b = put_decimal(out, a, pair);
-    let c = put_word(out, b, b" address ", (address / 256 % 256) as u8);
-    put_hex(out, c, (address % 256) as u8)
-}
-
-fn put_bytes(out: &mut [u8], at: usize, before: usize, after: usize) -> usize {
-    let a = put_word(out, at, b" before ", (before % 256) as u8);
-    let b = put_word(out, a, b" after ", (after % 256) as u8);
-    put_byte(out, b, b'\n')
-}
-
-// A line has less than 64 characters.
-fn put_line(
-    out: &mut [u8],
-    at: usize,
-    pair: usize,
-    address: usize,
-    before: usize,
-    after: usize,
-) -> usize {
-    let a = put_place(out, at, pair, address);
-    put_bytes(out, a, before, after)
-}
-
-// The lines of some entries, from one on: at most 1,024.
-fn put_lines(list: &[usize], from: usize, end: usize, past: usize) -> bool {
-    let mut out = [0u8; 65536];
-    let mut at: usize = 0;
-    let mut i = from;
-    while i < end {
-        if list.len() / 4 <= i {
-            return false;
-        }
-        let pair = std::num::wrapping_add_usize(past, number_in(list, 4 * i));
-        let address = number_in(list, 4 * i + 1);
-        let before = number_in(list, 4 * i + 2);
-        let after = number_in(list, 4 * i + 3);
-        at = put_line(&mut out, at, pair, address, before, after);
-        i += 1;
+// The lines of some stores, at most 1,024, each of less than 64 characters; `past` pairs are before the part that they are of.
+fn put_lines(rt: HostRuntime, entries: &[usize], past: usize) -> Result<()> {
+    let mut room = [0u8; 65536];
+    let mut out = Cursor::new(&mut room[..]);
+    for entry in entries.chunks_exact(ENTRY) {
+        let pair = past.wrapping_add(entry[0]);
+        let address = entry[1];
+        let before = entry[2];
+        let after = entry[3];
+        writeln!(
+            out,
+            "pair {pair} address {address:04X} before {before:02X} after {after:02X}"
+        )?;
     }
-    let whole = lesser(at, 65536);
-    io::write_all(STDOUT_FILENO, &out[..whole])
+    let end = (out.position() as usize).min(65536);
+    Print::write_all(&rt, &room[..end])
 }
 
-fn put_entries(list: &[usize], count: usize, past: usize) -> bool {
-    let mut i: usize = 0;
-    while i < count {
-        let end = lesser(count, std::num::wrapping_add_usize(i, 1024));
-        if !put_lines(list, i, end, past) {
-            return false;
-        }
-        if end <= i {
-            return false;
-        }
-        i = end;
+fn put_entries(rt: HostRuntime, entries: &[usize], past: usize) -> Result<()> {
+    for some in entries.chunks(1024 * ENTRY) {
+        put_lines(rt, some, past)?;
     }
-    true
+    Ok(())
 }
 
-// A part of the log listed, its lines written.
-fn list_part(
-    panel: Panel,
-    registers: Registers,
-    memory: &mut [u8],
-    rom: &[u8],
-    part: &[u8],
-    first: u16,
-    last: u16,
-    room: &mut [usize],
-    past: usize,
-    bytes: usize,
-) -> Heard {
-    let listed = list(panel, registers, memory, rom, part, first, last, room);
-    let told = put_entries(room, listed.count, past);
-    let after = listed.registers;
-    Heard {
-        registers: after,
-        stores: listed.count,
-        bytes,
-        number: listed.number,
-        failed: !told,
-    }
-}
-
-// The next part of the log, 512 pairs where it is not the last: no more than 80 entries a pair, so that they fit in the room.
-fn next_part(
-    rt: HostRuntime,
-    panel: Panel,
-    registers: Registers,
-    memory: &mut [u8],
-    rom: &[u8],
-    first: u16,
-    last: u16,
-    room: &mut [usize],
-    past: usize,
-) -> Heard {
-    let mut part = [0u8; 1024];
-    let got = read_whole(&mut rt.stdin(), &mut part);
-    if got.failed {
-        return Heard {
-            registers,
-            stores: 0,
-            bytes: 0,
-            number: 0,
-            failed: true,
-        };
-    }
-    let whole = got.count / 2 * 2;
-    list_part(
-        panel,
-        registers,
-        memory,
-        rom,
-        &part[..whole],
-        first,
-        last,
-        room,
-        past,
-        got.count,
-    )
-}
-
-// Part after part, from reset; the last one is shorter than the others. The turns end behind 2^42 bytes.
+// The log listed part after part, from reset, each into the room, which holds 80 stores for each of its pairs; the last part is shorter than
+// the others. Where the whole log's length is odd its whole pairs are the place.
 fn list_all(
     rt: HostRuntime,
     panel: Panel,
@@ -155,85 +62,74 @@ fn list_all(
     first: u16,
     last: u16,
     room: &mut [usize],
-) -> Heard {
+) -> Result<Told> {
     let mut registers = Registers::reset();
     let mut stores: usize = 0;
-    let mut bytes: usize = 0;
-    let mut turns: usize = 4294967296;
-    while turns > 0 {
-        let heard = next_part(
-            rt,
+    let mut past: usize = 0;
+    for _ in 0..PARTS {
+        let mut part = [0u8; PART];
+        let count = read_whole(&mut rt.stdin(), &mut part)?;
+        let pairs = count / 2;
+        let listed = list(
             panel,
             registers,
             memory,
             rom,
+            &part[..2 * pairs],
             first,
             last,
             room,
-            bytes / 2,
         );
-        registers = heard.registers;
-        stores = std::num::wrapping_add_usize(stores, heard.stores);
-        bytes = std::num::wrapping_add_usize(bytes, heard.bytes);
-        if heard.failed | (heard.number != 0) | (heard.bytes < 1024) {
-            return Heard {
-                registers,
-                stores,
-                bytes,
-                number: heard.number,
-                failed: heard.failed,
-            };
+        let end = room.len().min(listed.count.saturating_mul(ENTRY));
+        put_entries(rt, &room[..end], past)?;
+        registers = listed.registers;
+        stores = stores.wrapping_add(listed.count);
+        past = past.wrapping_add(pairs);
+        if let Err(refused) = listed.end {
+            // its place in its part is not told
+            let end = Err(Refused::from(refused.refusal));
+            return Ok(Told { stores, end });
         }
-        turns -= 1;
+        if count % 2 == 1 {
+            let refusal = Refusal::OddLength;
+            let end = Err(Refused {
+                refusal,
+                place: past,
+            });
+            return Ok(Told { stores, end });
+        }
+        if count < PART {
+            let end = Ok(());
+            return Ok(Told { stores, end });
+        }
     }
-    Heard {
-        registers,
-        stores,
-        bytes,
-        number: 0,
-        failed: true,
-    }
+    Err(Error::from(ErrorKind::FileTooLarge))
 }
 
-// The whole log's number: 8 where its length is odd, of which the whole pairs are the place.
-fn told(number: u8, bytes: usize) -> u8 {
-    if (number == 0) & (bytes % 2 != 0) {
-        8
-    } else {
-        number
-    }
-}
-
-fn show(heard: Heard) -> bool {
-    let number = told(heard.number, heard.bytes);
-    let place = if number == 8 { heard.bytes / 2 } else { 0 };
-    let count = put_field(b"stores ", heard.stores);
-    let refusal = put_field(b"\nrefusal ", number as usize);
-    let at = put_field(b" place ", place);
-    count & refusal & at & io::write_all(STDOUT_FILENO, b"\n")
-}
-
-fn main(rt: HostRuntime) {
+// The log listed, its end told, and its refusal number.
+fn list_log(rt: HostRuntime) -> Result<u8> {
     let mut rom = [0u8; 1024];
-    if !read_exact(&mut rt.stdin(), &mut rom) {
-        return;
-    }
-    let mut head = [0u8; 7];
-    let got = read_whole(&mut rt.stdin(), &mut head);
-    if got.failed {
-        return;
-    }
+    rt.stdin().read_exact(&mut rom)?;
     // what was not read is 0, as a missing byte counts
+    let mut head = [0u8; 7];
+    read_whole(&mut rt.stdin(), &mut head)?;
     let panel = panel_in(&head, has_argument(&rt, 1));
     let first = word(head[3], head[4]);
     let last = word(head[5], head[6]);
     let mut memory = empty_memory();
     let mut room = [0usize; 163840];
-    let heard = list_all(rt, panel, &mut memory, &rom, first, last, &mut room);
-    if heard.failed {
-        return;
-    }
-    if show(heard) {
-        report(told(heard.number, heard.bytes));
+    let told = list_all(rt, panel, &mut memory, &rom, first, last, &mut room)?;
+    println!(rt; "stores {}", told.stores)?;
+    let (number, place) = match told.end {
+        Ok(()) => (0, 0),
+        Err(refused) => (refused.refusal.number(), refused.place),
+    };
+    put_refusal(&rt, number, place)?;
+    Ok(number)
+}
+
+fn main(rt: HostRuntime) {
+    if let Ok(number) = list_log(rt) {
+        report(number);
     }
 }

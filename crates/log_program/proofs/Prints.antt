@@ -17,7 +17,7 @@ use Rattle.display.specs.Frame.{frame_of, lent_lengths, frame_fits, painted, Pai
 use Rattle.display.proofs.Painted.{paint-length}
 use Rattle.state.proofs.Valid.{Panelled, panelled}
 use Rattle.controller.specs.Types.{Panel, Registers}
-use Rattle.state.specs.declared.reply.Reply.{Reply}
+use Rattle.state.specs.Replies.{Reply}
 use Rattle.controller.specs.declared.run.Ran.{Ran}
 use Rattle.controller.specs.Access.{step_of}
 use Rattle.controller.specs.Run.{pairs_of, run_from, RanAll, ran_all, ran_of, ran_none, stopping_of}
@@ -35,24 +35,6 @@ use Rattle.log_program.specs.Ready.{FrameReady, TextReady}
 use Rattle.printed.proofs.Puts.{put_same, put_both, put-behind, put-before}
 use Rattle.printed.proofs.Prints.{zeros-length, lines-few, hex-lines-length, frame-lines-length}
 use Rattle.printed.proofs.Texts.{printed-none, printed-all, printed-put, printed-few, printed-within, reported-settled}
-
--- the log, cut out between two places of the input
-pub log_is : (l : List ℕ) {s e : ℕ} → s ≡ min 3 (length l) → e ≡ min 16387 (length l) → take (e - s) (drop s l) ≡ log_in l
-log_is l {s} {e} i j = go (dec_lt (length l) 3) (dec_lt (length l) 16387)
-  where
-    go : Dec (length l < 3) → Dec (length l < 16387) → take (e - s) (drop s l) ≡ log_in l
-    go (yes h) k =
-        let a : drop s l ≡ [] = drop_of_length-le l {i = s} (omega arith) in
-        let b : drop 3 l ≡ [] = drop_of_length-le l {i = 3} (omega arith) in
-        ap (take (e - s)) a ∙ take-nil (e - s) ∙ sym (ap (take 16384) b)
-    go (no h) (yes k) =
-        let a : s ≡ 3 = omega arith in
-        ap (λ (n : ℕ). take (e - n) (drop n l)) a ∙ take_all (e - 3) (drop 3 l) (rw length-drop (omega arith))
-        ∙ sym (take_all 16384 (drop 3 l) (rw length-drop (omega arith)))
-    go (no h) (no k) =
-        let a : s ≡ 3 = omega arith in
-        let b : e ≡ 16387 = omega arith in
-        λ q. take (b q - a q) (drop (a q) l)
 
 -- past the doors a painting is the frame
 pub drawn : {p : Panel} {r : Registers} {mem rom frame out : List ℕ} {at : ℕ} → FrameReady p r mem rom frame out at

@@ -4,19 +4,22 @@
 mod print;
 
 use crate::print::print;
-use report::{STDOUT_FILENO, read_whole, report};
+use report::{read_whole, report};
+use std::io::Result;
 
-fn main(rt: HostRuntime) {
+// The log's text written, and its refusal number.
+fn print_log(rt: HostRuntime) -> Result<u8> {
     let mut input = [0u8; 16387];
-    let got = read_whole(&mut rt.stdin(), &mut input);
-    if got.failed {
-        return;
-    }
-    let end = got.count;
+    let end = read_whole(&mut rt.stdin(), &mut input)?;
     let mut out = [0u8; 196608];
     let told = print(&input[..end], &mut out);
     let count = told.count;
-    if io::write_all(STDOUT_FILENO, &out[..count]) {
-        report(told.number);
+    rt.write_all(&out[..count])?;
+    Ok(told.number)
+}
+
+fn main(rt: HostRuntime) {
+    if let Ok(number) = print_log(rt) {
+        report(number);
     }
 }

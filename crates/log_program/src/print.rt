@@ -11,9 +11,8 @@ ghost use Rattle.log_program.specs.Ready.{FrameReady, TextReady};
 
 use controller::run::{Ran, run_stopping};
 use display::frame::paint;
-use ground::bytes::lesser;
-use printed::fill::{character_rom, empty_memory};
-use printed::input::panel_in;
+use printed::fill::{character_rom, empty_memory, zeroed};
+use printed::input::{panel_in, rest_in, start_in};
 use printed::parts::{print_answers, print_line, print_rows};
 use printed::told::Told;
 use state::panel::Panel;
@@ -23,17 +22,7 @@ use state::registers::Registers;
 fn log_in(input: &[u8]) -> &[u8]
     ensures { result.now ≡ log_in input.now }
 {
-    let start = lesser(3, input.len());
-    let end = lesser(3 + 16384, input.len());
-    &input[start..end]
-}
-
-// Room for an answer to every pair of a log.
-fn no_answers() -> [u8; 8192]
-    ensures value { result ≡ zeros 8192 }
-    ensures value_2 { 8192 ≡ length result }
-{
-    [0; 8192]
+    start_in(rest_in(input, 3), 16384)
 }
 
 // The run's line, which has at most 112 characters.
@@ -73,7 +62,7 @@ fn put_frame(
     requires { FrameReady panel registers memory.now rom.now frame.old out.old at }
     ensures { TextPut out.old at (frame_lines panel (frame_of panel registers.display memory.now rom.now)) out.new result }
 {
-    paint(panel, registers, memory, rom, frame);
+    let _ = paint(panel, registers, memory, rom, frame);
     let lines = print_rows(panel, frame, &mut out[at..]);
     at + lines
 }
@@ -120,7 +109,7 @@ pub fn print(input: &[u8], out: &mut [u8]) -> Told
     if out.len() == 196608 {
         let mut memory = empty_memory();
         let rom = character_rom();
-        let mut answers = no_answers();
+        let mut answers = zeroed::<8192>();
         let mut frame = [0u8; 20480];
         let ran = run_log(input, &mut memory, &rom, &mut answers);
         let panel = panel_in(input, false);

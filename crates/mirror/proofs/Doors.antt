@@ -9,9 +9,14 @@ use Rattle.ground.proofs.Tests.{settled}
 use Rattle.state.specs.State.{valid_panel}
 use Rattle.state.specs.Sizes.{frame_size, valid_size}
 use Rattle.state.proofs.Sizes.{is-size}
-use Rattle.display.specs.Types.{Panel, Reply}
+use Rattle.state.specs.declared.refusal.Refusal.{Refusal}
+use Rattle.state.specs.Replies.{reply}
+use Rattle.state.proofs.RefusalNumbers.{same_reply}
+use Rattle.std.proofs.Common.{Result}
+use Rattle.display.specs.Types.{Panel}
 use Rattle.display.specs.Frame.{frame_fits, reply_of, Painted, painted}
 use Rattle.mirror.specs.Order.{mirrored, convert_of}
+use Rattle.display.specs.Types.{Reply}
 
 -- past both tests, and in front of them
 module _ (p : Panel) (frame : List ℕ) where
@@ -39,7 +44,13 @@ module _ (p : Panel) (frame : List ℕ) where
       pub converts-0 : {l : List ℕ} → eqb (length frame) S ≡ true → l ≡ map mirrored frame → painted (reply_of 0) l ≡ convert_of p frame
       converts-0 h k = ap (painted (reply_of 0)) k ∙ converts true true (sym i ∙ e) (fits-is true h)
 
--- two replies that meet a promise are equal
+-- two answers that meet a promise are equal
+pub convert-result-settled : {x y : Result Unit Refusal} {f g : List ℕ} (p : Panel) (frame : List ℕ)
+    → painted (reply x) f ≡ convert_of p frame → painted (reply y) g ≡ convert_of p frame → (x ≡ y) × (f ≡ g)
+convert-result-settled {x} {y} p frame h k =
+    (same_reply x y (ap (λ (o : Painted). o.reply) (settled h k)), ap (λ (o : Painted). o.frame) (settled h k))
+
+-- the same of replies
 pub convert-settled : {x y : Reply} {f g : List ℕ} (p : Panel) (frame : List ℕ)
     → painted x f ≡ convert_of p frame → painted y g ≡ convert_of p frame → (x ≡ y) × (f ≡ g)
 convert-settled p frame h k =

@@ -1,4 +1,5 @@
 // What a pair was, in words.
 #![tactic(auto)]
 
+mod names;
 pub mod pair;

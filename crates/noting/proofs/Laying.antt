@@ -1,5 +1,5 @@
 -- Data in auto write, as they follow one another: stored one after the other, and noted where they are in the stretch.
-use Rattle.std.proofs.Common.{◌≡◌, ℕ, zero, suc, ◌+◌, ◌-◌, ◌*◌, ◌%◌, ◌^◌, ◌<◌, ◌≤◌, min, Bool, true, false, cond, ◌&&◌, ◌||◌, ltb, leb, List, [], ◌∷◌, ◌++◌, length, get_or, set, sym, refl, ap, ◌∙◌, true≢false, append-nil, add-one, arith, length-append, length-set, ltb-false, ltb-true, le-ltb, le-leb, leb-false, leb-true}
+use Rattle.std.proofs.Common.{subst, ◌≡◌, ℕ, zero, suc, ◌+◌, ◌-◌, ◌*◌, ◌%◌, ◌^◌, ◌<◌, ◌≤◌, min, Bool, true, false, cond, ◌&&◌, ◌||◌, ltb, leb, List, [], ◌∷◌, ◌++◌, length, get_or, set, sym, refl, ap, ◌∙◌, true≢false, append-nil, add-one, arith, length-append, length-set, ltb-false, ltb-true, le-ltb, le-leb, leb-false, leb-true}
 use native.Mathlib.Decide.{dec_lt}
 use lib.Seq.{sets, length-sets}
 use borrow.Author.Tests.{lt-leb}
@@ -251,8 +251,10 @@ module _ {log : List ℕ} {from n at : ℕ} {mem₀ mem : List ℕ} {count : ℕ
   pub filling-stops : (get_or log (2 * (from + k)) 0 ≡ 0 → ⊥) → Fills log from n at mem₀ mem (noting count list₀) list k
   filling-stops z = record { blocks = blocking-stops g.blocks z; notes = g.notes }
 
-  pub filling-ends : n ≤ k → Fills log from n at mem₀ mem (noting count list₀) list k
-  filling-ends h = record { blocks = blocking-ends g.blocks h; notes = g.notes }
+  pub filling-ends : n ≤ k → k ≤ n → Fills log from n at mem₀ mem (noting count list₀) list n
+  filling-ends h l =
+      let e : k ≡ n = omega arith in
+      subst (λ (j : ℕ). Fills log from n at mem₀ mem (noting count list₀) list j) e (record { blocks = blocking-ends g.blocks h; notes = g.notes })
 
 -- noted: none outside the stretch, all in it, counted alone where there is no room
 module _ (first last : ℕ) (f : ℕ → Store) (count : ℕ) (list : List ℕ) where

@@ -1,5 +1,6 @@
 -- Stores noted one behind the other.
-use Rattle.std.proofs.Common.{◌≡◌, ℕ, zero, suc, ◌+◌, ◌-◌, ◌*◌, ◌^◌, ◌<◌, ◌≤◌, Bool, true, false, cond, not, ltb, List, [], ◌∷◌, length, sym, refl, ap, ◌∙◌, add-one, arith, ltb-false, le-ltb, lt-ltb}
+use native.Mathlib.Decide.{dec_lt}
+use Rattle.std.proofs.Common.{min, ◌≡◌, ℕ, zero, suc, ◌+◌, ◌-◌, ◌*◌, ◌^◌, ◌<◌, ◌≤◌, Bool, true, false, cond, not, ltb, List, [], ◌∷◌, length, sym, refl, ap, ◌∙◌, add-one, arith, ltb-false, le-ltb, lt-ltb}
 use lib.Seq.{sets, length-sets}
 use borrow.Author.Tests.{not-true, not-false}
 use Rattle.noting.specs.Stretch.{Store, store, in_stretch}
@@ -9,8 +10,12 @@ use Rattle.noting.specs.Noted.{room_of, capped, Noting, noting, entry_of, entere
 pub plus-counts : (count n : ℕ) → count + n < 2 ^ 64 → count + n ≡ capped (count + n)
 plus-counts count n l = sym (ap (λ (t : Bool). cond t (count + n) (2 ^ 64 - 1)) (lt-ltb (count + n) (2 ^ 64) l))
 
-pub plus-most : (count n : ℕ) → 2 ^ 64 ≤ count + n → 2 ^ 64 - 1 ≡ capped (count + n)
-plus-most count n l = sym (ap (λ (t : Bool). cond t (count + n) (2 ^ 64 - 1)) (le-ltb (count + n) (2 ^ 64) l))
+pub saturated : (n : ℕ) {m : ℕ} → m ≡ min n (2 ^ 64 - 1) → m ≡ capped n
+saturated n {m} e = go (dec_lt n (2 ^ 64))
+  where
+    go : Dec (n < 2 ^ 64) → m ≡ capped n
+    go (yes h) = (let z : m ≡ n = omega (arith, e, h) in z) ∙ sym (ap (λ (t : Bool). cond t n (2 ^ 64 - 1)) (lt-ltb n (2 ^ 64) h))
+    go (no h) = (let z : m ≡ 2 ^ 64 - 1 = omega (arith, e, h) in z) ∙ sym (ap (λ (t : Bool). cond t n (2 ^ 64 - 1)) (le-ltb n (2 ^ 64) (omega (arith, h))))
 
 -- a store outside the stretch; inside it, without room and with room
 module _ (first last count pair address before after : ℕ) (list : List ℕ) where

@@ -4,12 +4,11 @@ ghost use Rattle.noting.specs.Stretch.{in_stretch};
 ghost use Rattle.noting.specs.Noted.{noting};
 ghost use Rattle.noting.specs.Laid.{Spans, Fills, Lays, LaysFrom};
 
-use super::note::{in_stretch, plus, put_entry};
-use ground::bytes::lesser;
+use super::note::{in_stretch, put_entry};
 use turns::block::block;
 
 // So many data taken, the entries needed then.
-#[derive(Clone, Copy)]
+#[derive(Clone, Copy, Debug, PartialEq, Eq)]
 pub struct Laid {
     pub pairs: usize,
     pub count: usize,
@@ -26,12 +25,12 @@ fn span(first: u16, last: u16, at: u16, inside: bool) -> usize
         }
         return 65536 - at as usize;
     }
-    std::num::wrapping_sub_u16(first, at) as usize
+    first.wrapping_sub(at) as usize
 }
 
 // At most n data, all in the stretch and with room for their entries, stored and entered: how many. No test in it but the kind.
 fn fill(
-    mem: &mut [u8],
+    memory: &mut [u8],
     start: u16,
     log: &[u8],
     from: usize,
@@ -39,29 +38,27 @@ fn fill(
     list: &mut [usize],
     count: usize,
 ) -> usize
-    requires mem_len { (length mem.old ≡ 65536) × (start + n ≤ 65536) }
+    requires mem_len { (length memory.old ≡ 65536) × (start + n ≤ 65536) }
     requires n_in_bounds { (2 * (from + n) ≤ length log.now) × (4 * (count + n) ≤ length list.old) }
-    ensures { Fills log.now from n start mem.old mem.new (noting count list.old) list.new result }
+    ensures { Fills log.now from n start memory.old memory.new (noting count list.old) list.new result }
 {
     let at = start as usize;
-    let mut k: usize = 0;
-    while k < n {
+    for k in 0..n {
         let i = from + k;
         if log[2 * i] != 0 {
             return k;
         }
         let there = at + k;
         let byte = log[2 * i + 1];
-        put_entry(list, 4 * (count + k), i, there, mem[there], byte);
-        mem[there] = byte;
-        k += 1;
+        put_entry(list, 4 * (count + k), i, there, memory[there], byte);
+        memory[there] = byte;
     }
-    k
+    n
 }
 
 // The data from a place on that lie alike, at most `left`: stored, and noted if they are in the stretch.
 fn lay_alike(
-    mem: &mut [u8],
+    memory: &mut [u8],
     list: &mut [usize],
     count: usize,
     log: &[u8],
@@ -71,25 +68,25 @@ fn lay_alike(
     first: u16,
     last: u16,
 ) -> Laid
-    requires mem_len { length mem.old ≡ 65536 }
+    requires mem_len { length memory.old ≡ 65536 }
     requires left_in_bounds { 2 * (from + left) ≤ length log.now }
-    ensures { Lays first last log.now from left at mem.old mem.new (noting count list.old) (noting result.count list.new) result.pairs }
+    ensures { Lays first last log.now from left at memory.old memory.new (noting count list.old) (noting result.count list.new) result.pairs }
 {
     let inside = in_stretch(first, last, at);
-    let near = lesser(left, span(first, last, at, inside));
+    let near = left.min(span(first, last, at, inside));
     let room = list.len() / 4;
     if inside & (count < room) {
-        let n = fill(mem, at, log, from, lesser(near, room - count), list, count);
+        let n = fill(memory, at, log, from, near.min(room - count), list, count);
         return Laid {
             pairs: n,
             count: count + n,
         };
     }
-    let n = block(mem, at, log, from, from + near) - from;
+    let n = block(memory, at, log, from, from + near) - from;
     if inside {
         return Laid {
             pairs: n,
-            count: plus(count, n),
+            count: count.saturating_add(n),
         };
     }
     Laid { pairs: n, count }
@@ -97,7 +94,7 @@ fn lay_alike(
 
 // The data from a place on, up to `total`, as far as they lie alike; none where less is lent.
 pub fn lay(
-    mem: &mut [u8],
+    memory: &mut [u8],
     list: &mut [usize],
     count: usize,
     log: &[u8],
@@ -107,11 +104,21 @@ pub fn lay(
     first: u16,
     last: u16,
 ) -> Laid
-    ensures { LaysFrom first last log.now from total at mem.old mem.new (noting count list.old) (noting result.count list.new) result.pairs }
+    ensures { LaysFrom first last log.now from total at memory.old memory.new (noting count list.old) (noting result.count list.new) result.pairs }
 {
-    let lent = (mem.len() == 65536) & (total <= log.len() / 2);
+    let lent = (memory.len() == 65536) & (total <= log.len() / 2);
     if lent & (from <= total) {
-        return lay_alike(mem, list, count, log, from, total - from, at, first, last);
+        return lay_alike(
+            memory,
+            list,
+            count,
+            log,
+            from,
+            total - from,
+            at,
+            first,
+            last,
+        );
     }
     Laid { pairs: 0, count }
 }

@@ -2,7 +2,7 @@
 ghost use Rattle.std.specs.Prelude.{◌≡◌, ◌+◌, ◌≤◌, [], ◌∷◌, length};
 ghost use Rattle.std.proofs.lemmas.List.Edits.{sets};
 ghost use Rattle.noting.specs.Stretch.{store, in_stretch};
-ghost use Rattle.noting.specs.Noted.{capped, noting, noted_by, Singles, SingleNoted};
+ghost use Rattle.noting.specs.Noted.{noting, noted_by, Singles, SingleNoted};
 
 pub(crate) fn in_stretch(first: u16, last: u16, address: u16) -> bool
     ensures { result ≡ in_stretch first last address }
@@ -13,17 +13,8 @@ pub(crate) fn in_stretch(first: u16, last: u16, address: u16) -> bool
     (first <= address) | (address <= last)
 }
 
-// So many more; 64 bits can say no more than their most.
-pub(crate) fn plus(count: usize, n: usize) -> usize
-    ensures { result ≡ capped (count + n) }
-{
-    let left = 18446744073709551615 - count;
-    if left < n {
-        return 18446744073709551615;
-    }
-    count + n
-}
-
+// Four stores: a part of the list and an array of four would be no plainer.
+// An entry: four numbers in a row.
 pub(crate) fn put_entry(
     list: &mut [usize],
     at: usize,
@@ -58,10 +49,10 @@ pub fn note(
         return count;
     }
     if list.len() / 4 <= count {
-        return plus(count, 1);
+        return count.saturating_add(1);
     }
     put_entry(list, 4 * count, pair, address as usize, before, after);
-    plus(count, 1)
+    count.saturating_add(1)
 }
 
 // How many bytes a command stores, by its code: none or one; not asked about E0H to EFH, a copy among them.

@@ -7,8 +7,9 @@ use effects::store::byte_there;
 use state::registers::Bus;
 use usual::tell::tell;
 
-// A command done or left: the bus and the entries needed then.
-#[derive(Clone, Copy)]
+// A command done or left: the bus and the entries needed then. A flag beside them, as in `usual::tell`, which the list's loop takes apart: an
+// Option was not measured there.
+#[derive(Clone, Copy, Debug, PartialEq, Eq)]
 pub struct Said {
     pub bus: Bus,
     pub count: usize,
@@ -18,7 +19,7 @@ pub struct Said {
 // A command done, and its store noted, or left. E0H up are left: a copy stores many bytes.
 pub fn say(
     bus: Bus,
-    mem: &mut [u8],
+    memory: &mut [u8],
     quiet: bool,
     code: u8,
     pair: usize,
@@ -27,12 +28,12 @@ pub fn say(
     first: u16,
     last: u16,
 ) -> Said
-    ensures { Says first last pair bus mem.old quiet code (noting count list.old) result mem.new list.new }
+    ensures { Says first last pair bus memory.old quiet code (noting count list.old) result memory.new list.new }
 {
-    let was = byte_there(mem, bus.pointer);
-    let told = tell(bus, mem, quiet & (code / 16 != 14), code);
+    let was = byte_there(memory, bus.pointer);
+    let told = tell(bus, memory, quiet & (code / 16 != 14), code);
     if told.done {
-        let after = byte_there(mem, bus.pointer);
+        let after = byte_there(memory, bus.pointer);
         let noted = note_one(
             list,
             count,

@@ -13,8 +13,7 @@ use Rattle.state.specs.declared.panel.Panel.{Panel}
 use Rattle.state.specs.State.{valid_panel}
 use Rattle.state.proofs.Sizes.{some-width}
 use Rattle.state.specs.declared.registers.Combination.{Combination}
-use Rattle.contents.specs.declared.ask.Asked.{Asked}
-use Rattle.contents.specs.declared.ask.Asked.TheVariants.{Body as Asked-Body, Refused}
+use Rattle.contents.specs.Replies.{Asked, Body as Asked-Body, Refused}
 use Rattle.contents.specs.Asked.{asked_of}
 use Rattle.book.specs.declared.operation.Placed.{Placed}
 use Rattle.book.specs.declared.operation.Placed.TheVariants.{Text, Rectangle, Dot, Glyph, Cursor, Combine}
@@ -22,7 +21,7 @@ use Rattle.book.specs.Operation.{Operation, text, rectangle, dot, glyph, cursor,
 use Rattle.book.specs.Range.{InRange}
 use Rattle.book.specs.Screen.{screen, screen_in, screen_of}
 use Rattle.book.proofs.Walking.{walk-all}
-use Rattle.picture.specs.declared.cursor.Laid.{Laid}
+use Rattle.picture.specs.Laid.{Laid}
 use Rattle.picture.specs.Picture.{Picture, blank, applied, applied_all, picture_of}
 use Rattle.picture.proofs.Planes.{stores-swap}
 use Rattle.order.specs.Order.{operation_number, area_of, uses, graphic_number, unlike_numbers, one_plane, Free, unlike, apart}

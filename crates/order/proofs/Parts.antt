@@ -14,8 +14,7 @@ use Rattle.ground.proofs.Tests.{both}
 use Rattle.state.specs.declared.panel.Panel.{Panel}
 use Rattle.state.specs.declared.registers.Combination.{Combination}
 use Rattle.book.specs.Operation.{Operation, text, rectangle, dot, glyph, cursor, combine, dot_byte, dot_bit}
-use Rattle.picture.specs.declared.cursor.Laid.{Laid}
-use Rattle.picture.specs.declared.cursor.Laid.TheVariants.{Over}
+use Rattle.picture.specs.Laid.{Laid, Over}
 use Rattle.picture.specs.Picture.{Picture, filled, applied}
 use Rattle.picture.proofs.Planes.{Stores, stores-none, stores_one, stores-sets, stores-filled}
 use Rattle.order.specs.declared.area.Area.{Area}

@@ -2,24 +2,16 @@
 use mathlib.Core.Path.{◌≡◌, refl, sym, ap, ◌∙◌}
 use mathlib.Core.Bool.{Bool, true, false, not, ◌&&◌, ◌||◌, true≢false}
 use mathlib.Core.Logic.{◌⊎◌, inl, inr}
-use Prim.Native.Nat.{ℕ, ◌+◌, ◌-◌, ◌<◌, ◌≤◌}
+use Prim.Native.Nat.{ℕ, ◌+◌, ◌<◌, ◌≤◌}
 use native.Mathlib.Decide.{dec_le}
 use native.Mathlib.Omega.{arith}
 use lib.Dec.{ltb, leb}
-use borrow.Author.Tests.{ltb-true, ltb-false, leb-true, le-ltb, lt-ltb, le-leb, not-true}
+use borrow.Author.Tests.{ltb-true, leb-true, lt-ltb, le-leb, not-true}
 use Rattle.ground.proofs.Tests.{both, both_left, both_right, either}
 use Rattle.state.specs.declared.panel.Panel.{Panel}
 use Rattle.book.specs.Operation.{Operation}
 use Rattle.order.specs.declared.area.Area.{Area}
 use Rattle.order.specs.Order.{operation_number, area_of, uses, unlike_numbers, one_plane, Free, unlike, apart, meets, shares, may_of}
-
--- a sum compared by the difference
-pub less-sum : (s t n : ℕ) → t ≤ s → ltb (s - t) n ≡ ltb s (t + n)
-less-sum s t n h = go (ltb s (t + n)) refl
-  where
-    go : (v : Bool) → ltb s (t + n) ≡ v → ltb (s - t) n ≡ v
-    go true e = let k : s < t + n = ltb-true s (t + n) e in lt-ltb (s - t) n (omega arith)
-    go false e = let k : t + n ≤ s = ltb-false s (t + n) e in le-ltb (s - t) n (omega arith)
 
 -- a stretch of n places from s on has i
 abbrev within : ℕ → ℕ → ℕ → Bool

@@ -1,16 +1,16 @@
 -- 02, Req 13: what is answered to whoever asks for a screen's operation and the one behind it.
-use Rattle.std.specs.Prelude.{ℕ, zero, suc, ◌/◌, cond, List, [], ◌∷◌}
+use Rattle.std.specs.Prelude.{ℕ, zero, suc, ◌/◌, Bool, true, false, cond, List, [], ◌∷◌}
 use Rattle.state.specs.declared.panel.Panel.{Panel}
 use Rattle.state.specs.State.{valid_panel}
 use Rattle.book.specs.declared.operation.Placed.{Placed}
 use Rattle.book.specs.declared.operation.Placed.TheVariants.{Text, Rectangle, Dot, Glyph, Cursor, Combine}
-use Rattle.book.specs.declared.operation.Found.{Found}
-use Rattle.book.specs.declared.operation.Found.TheVariants.{Operation as Found-Operation, End, Faulty}
+use Rattle.book.specs.Replies.{Found, Operation as Found-Operation, End, Faulty}
 use Rattle.book.specs.Operation.{Operation}
 use Rattle.book.specs.Screen.{Screen, screen, refused, screen_of}
 use Rattle.order.specs.declared.area.Area.{Area}
-use Rattle.order.specs.declared.swap.Swap.{Swap}
-use Rattle.order.specs.declared.swap.Swap.TheVariants.{May, Stays, NoTwo, Refused}
+use Rattle.order.specs.declared.swap.Kind.{Kind}
+use Rattle.order.specs.declared.swap.Kind.TheVariants.{Text as Kind-Text, Graphic as Kind-Graphic, Glyph as Kind-Glyph, Cursor as Kind-Cursor, Combination as Kind-Combination}
+use Rattle.order.specs.Replies.{Swap, May, Stays, NoTwo, Refused}
 use Rattle.order.specs.Order.{may_by, may_of}
 
 -- an operation and the one behind it, if there is one
@@ -41,6 +41,23 @@ placed_number (Dot x y on) = 3
 placed_number (Glyph code from) = 4
 placed_number (Cursor line column height blink) = 5
 placed_number (Combine k) = 6
+
+-- rectangles and dots are of one kind
+abbrev pub kind_of : Placed → Kind
+kind_of (Text line column from n) = Kind-Text
+kind_of (Rectangle top column height width value) = Kind-Graphic
+kind_of (Dot x y on) = Kind-Graphic
+kind_of (Glyph code from) = Kind-Glyph
+kind_of (Cursor line column height blink) = Kind-Cursor
+kind_of (Combine k) = Kind-Combination
+
+-- text, graphic and glyphs
+abbrev pub uses_plane : Kind → Bool
+uses_plane Kind-Text = true
+uses_plane Kind-Graphic = true
+uses_plane Kind-Glyph = true
+uses_plane Kind-Cursor = false
+uses_plane Kind-Combination = false
 
 abbrev pub placed_area : Panel → Placed → Area
 placed_area p (Text line column from n) = record { top = line; left = column; height = 1; width = n }

@@ -1,81 +1,69 @@
-// What the programs write of a run: its line, the pairs it skipped, its answers and its frame's rows; each says whether all was written.
+// What the programs write of a run: its line, the pairs it skipped, its answers and its frame's rows.
 #![tactic(auto)]
-
-ghost use Rattle.std.specs.Prelude.{◌≡◌, length};
 
 use display::frame::paint;
 use printed::parts::{print_answers, print_line, print_refusal, print_rows};
-use report::STDOUT_FILENO;
 use state::panel::Panel;
 use state::registers::Registers;
+use std::io::{Print, Result};
 
-// Room for the largest frame's rows. The `ensures` gives only the length.
-fn empty_room() -> [u8; 196608]
-    ensures { 196608 ≡ length result }
-{
-    [0; 196608]
-}
+// Bytes for the largest frame's rows.
+const ROWS: usize = 196608;
 
-// The run's line.
-pub fn write_line(fd: i32, pairs: usize, answers: usize, number: u8, place: usize) -> bool {
+/// The run's line, to standard output or standard error: pairs taken, answers, refusal number and place.
+pub fn write_line(
+    to: &impl Print,
+    pairs: usize,
+    answers: usize,
+    number: u8,
+    place: usize,
+) -> Result<()> {
     let mut line = [0u8; 112];
     let end = print_line(pairs, answers, number, place, &mut line);
-    io::write_all(fd, &line[..end])
+    to.write_all(&line[..end])
 }
 
 // The line of a refused pair.
-fn write_refusal(number: u8, place: usize) -> bool {
+fn write_refusal(to: &impl Print, number: u8, place: usize) -> Result<()> {
     let mut line = [0u8; 56];
     let end = print_refusal(number, place, &mut line);
-    io::write_all(STDOUT_FILENO, &line[..end])
+    to.write_all(&line[..end])
 }
 
-// The lines of the pairs skipped, their places counted from the whole log's start.
-pub fn write_skipped(skips: &[usize], count: usize, before: usize) -> bool {
-    let mut i: usize = 0;
-    while i < count {
-        if skips.len() / 2 <= i {
-            return true;
-        }
-        let number = (skips[2 * i] % 256) as u8;
-        let place = std::num::wrapping_add_usize(before, skips[2 * i + 1]);
-        if !write_refusal(number, place) {
-            return false;
-        }
-        i += 1;
+/// The lines of the first `count` pairs skipped, two numbers of the list each: refusal number, and place in a part of the log that begins
+/// `before` pairs behind the log's start, from which the line counts.
+pub fn write_skipped(to: &impl Print, skips: &[usize], count: usize, before: usize) -> Result<()> {
+    for skip in skips.chunks_exact(2).take(count) {
+        write_refusal(to, (skip[0] % 256) as u8, before.wrapping_add(skip[1]))?;
     }
-    true
+    Ok(())
 }
 
-// The lines of some answers, at most 65,536.
-pub fn write_answers(given: usize, answers: &[u8]) -> bool {
-    let mut out = empty_room();
+/// The lines of the first `given` answers, at most 65,536.
+pub fn write_answers(to: &impl Print, given: usize, answers: &[u8]) -> Result<()> {
+    let mut out = [0u8; ROWS];
     let end = print_answers(given, answers, &mut out);
-    io::write_all(STDOUT_FILENO, &out[..end])
+    to.write_all(&out[..end])
 }
 
-// A frame's rows.
-pub fn write_rows(panel: Panel, frame: &[u8]) -> bool {
-    let mut out = empty_room();
+/// A frame's rows; nothing where it is not of its panel's size.
+pub fn write_rows(to: &impl Print, panel: Panel, frame: &[u8]) -> Result<()> {
+    let mut out = [0u8; ROWS];
     let end = print_rows(panel, frame, &mut out);
-    io::write_all(STDOUT_FILENO, &out[..end])
+    to.write_all(&out[..end])
 }
 
-// The frame painted, and its rows.
-fn paint_rows(
+/// The rows of the frame painted; of one that painting refuses, blank.
+pub fn write_frame(
+    to: &impl Print,
     panel: Panel,
     registers: Registers,
     memory: &[u8],
     rom: &[u8],
-    frame: &mut [u8],
-) -> bool {
-    paint(panel, registers, memory, rom, frame);
-    write_rows(panel, frame)
-}
-
-// The same in a frame of the panel's size.
-pub fn write_frame(panel: Panel, registers: Registers, memory: &[u8], rom: &[u8]) -> bool {
+) -> Result<()> {
     let size = panel.frame_size();
-    let mut frame = [0u8; 20480];
-    paint_rows(panel, registers, memory, rom, &mut frame[..size])
+    let mut room = [0u8; 20480];
+    let frame = &mut room[..size];
+    let _ = paint(panel, registers, memory, rom, frame);
+    write_rows(to, panel, frame)
 }

@@ -1,7 +1,7 @@
 -- 01, Screens, and Numbers returned: what drawing a screen answers.
 use Rattle.std.specs.Prelude.{ℕ, ◌*◌, Bool, cond, ◌&&◌, List, eqb, length}
 use Rattle.state.specs.declared.panel.Panel.{Panel}
-use Rattle.state.specs.declared.reply.Reply.{Reply}
+use Rattle.state.specs.Replies.{Reply}
 use Rattle.state.specs.State.{valid_panel}
 use Rattle.display.specs.Frame.{frame_fits, reply_of}
 use Rattle.book.specs.Screen.{Screen, screen, refused, screen_of}

@@ -1,21 +1,15 @@
 -- What inner routines rest on, tested once at the door.
-use Rattle.std.specs.Prelude.{ℕ, ◌*◌, ◌<◌, ◌≡◌, true, cond, ◌&&◌, List, eqb, length}
+use Rattle.std.specs.Prelude.{ℕ, ◌*◌, ◌<◌}
 use Rattle.state.specs.declared.panel.Panel.{Panel}
-use Rattle.state.specs.State.{valid_panel}
-use Rattle.state.specs.Sizes.{frame_size}
-use Rattle.picture.specs.Ready.{Sized}
-
--- a valid panel, a character ROM and the three planes
-pub record Paintable (p : Panel) (rom graphic codes glyphs : List ℕ) : Type 0 where
-  pub valid : valid_panel p ≡ true
-  pub characters : length rom ≡ 1024
-  pub sized : Sized p graphic codes glyphs
+use Rattle.picture.specs.Picture.{picture_cell}
+use Rattle.picture.specs.Ready.{picture_with}
+use Rattle.painter.specs.declared.scene.Scene.{Scene}
 
 -- a dot row and a column of the panel
 pub record OnPanel (p : Panel) (row column : ℕ) : Type 0 where
   pub down : row < 8 * p.lines
   pub across : column < p.columns
 
--- by the panel and the lengths of ROM and frame: 1, 2, or 0
-abbrev pub draw_door : Panel → ℕ → ℕ → ℕ
-draw_door p rom frame = cond (valid_panel p) (cond (eqb rom 1024 && eqb frame (frame_size p)) 0 2) 1
+-- the byte of a cell in a dot row
+abbrev pub shown : Scene → ℕ → ℕ → ℕ
+shown s = picture_cell s.panel s.rom.now (picture_with s.graphic.now s.codes.now s.glyphs.now s.style) s.phase

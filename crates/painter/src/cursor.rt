@@ -1,20 +1,24 @@
 // What the cursor of a picture covers.
 ghost use Rattle.std.specs.Prelude.{◌≡◌, ◌<◌};
+ghost use Rattle.picture.specs.Laid.{laid};
 ghost use Rattle.picture.specs.Picture.{cursor_over, covered_by};
 
 use picture::cursor::Laid;
 use state::panel::Panel;
 use state::registers::Cursor;
 
-// Whether it covers a cell in the cell's dot row v.
-pub(crate) fn covers(laid: Laid, panel: Panel, line: usize, v: usize, column: usize) -> bool
+// Whether there is one that covers a cell in the cell's dot row v.
+pub(crate) fn covers(
+    cursor: Option<Laid>,
+    panel: Panel,
+    line: usize,
+    v: usize,
+    column: usize,
+) -> bool
     requires { v < 8 }
-    ensures { result ≡ covered_by panel laid line v column }
+    ensures { result ≡ covered_by panel (laid cursor) line v column }
 {
-    match laid {
-        Laid::Nowhere => false,
-        Laid::Over(cursor, _) => reaches(cursor, panel, line, v, column),
-    }
+    cursor.is_some_and(|laid| reaches(laid.cursor, panel, line, v, column))
 }
 
 // A cursor on the panel: its cell, and there the lowest rows, as many as its height.

@@ -1,28 +1,18 @@
 // A screen of a book drawn, with no controller.
-ghost use Rattle.std.specs.Prelude.{◌≡◌};
-ghost use Rattle.painter.specs.Ready.{draw_door};
+ghost use Rattle.std.specs.Prelude.{◌≡◌, OnErr};
+ghost use Rattle.state.specs.Replies.{placed_reply};
 ghost use Rattle.painter.specs.Drawn.{drew_all, draw_of};
 
-use super::paint::paint_rows;
+use super::scene::Scene;
 use picture::plan::planes;
-use picture::style::Style;
 use state::panel::Panel;
-use state::reply::Reply;
+use state::refusal::{Refusal, Refused};
 
-// The planes' own lengths are tested where they are made.
-fn door(panel: Panel, rom: usize, frame: usize) -> u8
-    ensures { result ≡ draw_door panel rom frame }
-{
-    let valid = panel.valid();
-    let size = panel.frame_size();
-    let fits = (rom == 1024) & (frame == size);
-    if !valid {
-        return 1;
-    }
-    if fits { 0 } else { 2 }
-}
-
-// The picture's planes and its dots in a phase, true where it is normal, unless the panel, a length, the book or the screen is refused.
+// Planes and frame as parameters: docs/PROMISES.md names this, and the draw program hands in parts of its arrays.
+/// The planes of a screen's picture and its dots in a phase, true where it is normal: `rom` of 1,024 bytes, `graphic` of C·8L, `codes` of
+/// C·L, `glyphs` of 1,024, `frame` of 8·L·R. Refused, with every lent buffer as it was: a panel that is not valid, a buffer of another
+/// length, a wrong book or screen with its place.
+#[tactic(auto, unfolding(crate::specs::Drawn::draw_of))]
 pub fn draw(
     panel: Panel,
     book: &[u8],
@@ -33,36 +23,28 @@ pub fn draw(
     codes: &mut [u8],
     glyphs: &mut [u8],
     frame: &mut [u8],
-) -> Reply
-    ensures { drew_all result graphic.new codes.new glyphs.new frame.new
+) -> Result<(), Refused>
+    ensures drawn { drew_all (placed_reply result) graphic.new codes.new glyphs.new frame.new
         ≡ draw_of panel book.now number rom.now phase graphic.old codes.old glyphs.old frame.old }
+    ensures err { OnErr result ((graphic.new ≡ graphic.old) × (codes.new ≡ codes.old) × (glyphs.new ≡ glyphs.old) × (frame.new ≡ frame.old)) }
 {
-    let refused = door(panel, rom.len(), frame.len());
-    if refused != 0 {
-        return Reply {
-            number: refused,
-            place: 0,
-        };
+    if !panel.valid() {
+        return Err(Refusal::Invalid.into());
     }
-    let planned = planes(panel, book, number, graphic, codes, glyphs);
-    if planned.number != 0 {
-        return Reply {
-            number: planned.number,
-            place: planned.place,
-        };
+    let fits = (rom.len() == 1024) & (frame.len() == panel.frame_size());
+    if !fits {
+        return Err(Refusal::WrongLength.into());
     }
-    let combination = planned.combination;
-    let cursor = planned.cursor;
-    let style = Style {
-        combination,
-        cursor,
+    let style = planes(panel, book, number, graphic, codes, glyphs)?;
+    let scene = Scene {
+        panel,
+        rom,
+        graphic,
+        codes,
+        glyphs,
+        style,
+        phase,
     };
-    let bytes = panel.row_size();
-    paint_rows(
-        panel, rom, graphic, codes, glyphs, style, phase, bytes, frame,
-    );
-    Reply {
-        number: 0,
-        place: 0,
-    }
+    scene.paint(frame);
+    Ok(())
 }

@@ -5,3 +5,4 @@ mod cell;
 mod cursor;
 pub mod draw;
 mod paint;
+mod scene;

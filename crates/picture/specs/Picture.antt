@@ -12,8 +12,7 @@ use Rattle.state.specs.Combination.{combined}
 use Rattle.display.specs.Displayed.{cursor_lit}
 use Rattle.book.specs.Operation.{Operation, text, rectangle, dot, glyph, cursor, combine, dot_byte, dot_bit}
 use Rattle.picture.specs.Layers.{plane_text, plane_graphic}
-use Rattle.picture.specs.declared.cursor.Laid.{Laid}
-use Rattle.picture.specs.declared.cursor.Laid.TheVariants.{Nowhere, Over}
+use Rattle.picture.specs.Laid.{Laid, Nowhere, Over}
 
 -- planes of C·8L graphic bytes, C·L text codes and 1,024 glyph bytes; the combination; the cursor
 pub record Picture : Type 0 where

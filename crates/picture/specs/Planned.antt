@@ -1,12 +1,22 @@
 -- 02, Req 14: a screen's picture as three planes, its combination and its cursor.
-use Rattle.std.specs.Prelude.{ℕ, ◌*◌, Bool, cond, ◌&&◌, List, eqb, length}
+use Rattle.std.specs.Prelude.{ℕ, ◌*◌, Bool, cond, ◌&&◌, List, eqb, length, Result, Ok, Err}
 use Rattle.state.specs.declared.panel.Panel.{Panel}
+use Rattle.state.specs.declared.refusal.Refused.{Refused}
+use Rattle.state.specs.declared.registers.Combination.{Combination}
 use Rattle.state.specs.declared.registers.Combination.TheVariants.{Or}
+use Rattle.state.specs.Refusals.{number_of}
 use Rattle.state.specs.State.{valid_panel}
 use Rattle.book.specs.Screen.{Screen, screen, refused, screen_of}
-use Rattle.picture.specs.declared.cursor.Laid.TheVariants.{Nowhere}
-use Rattle.picture.specs.declared.plan.Planned.{Planned}
+use Rattle.picture.specs.declared.style.Style.{Style}
+use Rattle.picture.specs.Laid.{Laid, Nowhere, laid}
 use Rattle.picture.specs.Picture.{Picture, picture_of}
+
+-- a number and place, 0 where the screen was planned; its combination and its cursor
+pub record Planned : Type 0 where
+  pub number : ℕ
+  pub place : ℕ
+  pub combination : Combination
+  pub cursor : Laid
 
 -- a reply, and the lent planes then
 pub record Plan : Type 0 where
@@ -21,6 +31,11 @@ planned_all planned graphic codes glyphs = record { planned = planned; graphic =
 -- OR and no cursor on a refusal
 abbrev pub refused_plan : ℕ → ℕ → Planned
 refused_plan n place = record { number = n; place = place; combination = Or; cursor = Nowhere }
+
+-- what a result stands for
+abbrev pub styled : Result Style Refused → Planned
+styled (Ok s) = record { number = 0; place = 0; combination = s.combination; cursor = laid s.cursor }
+styled (Err e) = refused_plan (number_of e.refusal) e.place
 
 abbrev pub pictured : Picture → Plan
 pictured a =

@@ -6,11 +6,12 @@ use Rattle.state.specs.Sizes.{cell_count}
 use Rattle.book.specs.Operation.{Operation}
 use Rattle.book.specs.Screen.{Screen, screen, refused, operations_from}
 use Rattle.picture.specs.declared.style.Style.{Style}
+use Rattle.picture.specs.Laid.{laid}
 use Rattle.picture.specs.Picture.{Picture, applied_all}
 
 abbrev pub picture_with : List ℕ → List ℕ → List ℕ → Style → Picture
 picture_with graphic codes glyphs s =
-    record { graphic = graphic; codes = codes; glyphs = glyphs; combination = s.combination; cursor = s.cursor }
+    record { graphic = graphic; codes = codes; glyphs = glyphs; combination = s.combination; cursor = laid s.cursor }
 
 -- planes of C·8L, C·L and 1,024 bytes
 abbrev pub graphic_bytes : Panel → ℕ
@@ -26,11 +27,6 @@ pub record InPlane (p : Panel) (Range : Type 0) (size : ℕ) (plane : List ℕ) 
   pub valid : valid_panel p ≡ true
   pub range : Range
   pub sized : length plane ≡ size
-
-pub record PlanesLent (p : Panel) (Range : Type 0) (graphic codes glyphs : List ℕ) : Type 0 where
-  pub valid : valid_panel p ≡ true
-  pub range : Range
-  pub sized : Sized p graphic codes glyphs
 
 -- the operations of a screen applied, none where it was refused
 abbrev pub applied_in : Panel → Screen → Picture → Picture

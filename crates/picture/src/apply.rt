@@ -1,22 +1,38 @@
 // Operations applied to planes and style, later over earlier.
-ghost use Rattle.std.specs.Prelude.{◌≡◌, ◌-◌, ◌*◌, ◌+◌, take, drop, set, get_or};
+ghost use Rattle.std.specs.Prelude.{◌≡◌, ◌-◌, ◌*◌, ◌+◌, true, length, take, drop, set, get_or};
 ghost use Rattle.std.proofs.lemmas.List.Edits.{sets};
 ghost use Rattle.ground.specs.Bytes.{with_bit};
 ghost use Rattle.book.specs.Operation.{operation_of, dot_byte, dot_bit};
 ghost use Rattle.book.specs.Range.{InRange, TextRange, RectangleRange, DotRange, GlyphRange};
 ghost use Rattle.book.specs.Screen.{operations_from};
-ghost use Rattle.picture.specs.Picture.{filled, applied, blank};
+ghost use Rattle.picture.specs.Picture.{filled, applied};
 ghost use Rattle.state.specs.Sizes.{cell_count};
-ghost use Rattle.picture.specs.Ready.{picture_with, graphic_bytes, InPlane, PlanesLent, applied_in, Sized, DrawableBody};
+ghost use Rattle.state.specs.State.{valid_panel};
+ghost use Rattle.picture.specs.Ready.{graphic_bytes, InPlane, applied_in, DrawableBody};
 
 use super::cursor::Laid;
-use super::plane::{clear, fill, store};
+use super::plane::{fill, store};
 use super::style::Style;
-use book::operation::{Found, Placed, read};
+use book::operation::{Placed, read};
 use ground::bytes::with_bit;
 use state::panel::Panel;
-use state::registers::{Combination, Cursor};
+use state::registers::Cursor;
 
+/// A picture that is being made: a valid panel's planes as they are lent, and the style so far.
+#[derive(Drop)]
+pub(crate) struct Canvas<'a> {
+    pub panel: Panel,
+    pub graphic: &'a mut [u8],
+    pub codes: &'a mut [u8],
+    pub glyphs: &'a mut [u8],
+    pub style: Style,
+    ghost valid: { valid_panel panel ≡ true },
+    ghost rows: { length graphic.now ≡ graphic_bytes panel },
+    ghost cells: { length codes.now ≡ cell_count panel },
+    ghost shapes: { length glyphs.now ≡ 1024 },
+}
+
+// Functions of the one plane that each changes, here and below: as methods each would promise that the others stay.
 // Operation 1: a text's codes from its cell on.
 fn lay_text(
     codes: &mut [u8],
@@ -46,10 +62,8 @@ fn lay_rectangle(
     requires { InPlane panel (RectangleRange panel top column height width) (graphic_bytes panel) graphic.old }
     ensures { graphic.new ≡ filled panel top column height width value graphic.old }
 {
-    let mut i: usize = 0;
-    while i < height {
-        fill(graphic, (top + i) * panel.columns + column, width, value);
-        i += 1;
+    for row in top..top + height {
+        fill(graphic, row * panel.columns + column, width, value);
     }
 }
 
@@ -71,137 +85,63 @@ fn lay_glyph(glyphs: &mut [u8], panel: Panel, k: u8, book: &[u8], from: usize)
     store(glyphs, 8 * (k - 0x80) as usize, book, from, 8);
 }
 
-// An operation that was found in the book.
-fn apply(
-    panel: Panel,
-    book: &[u8],
-    placed: Placed,
-    graphic: &mut [u8],
-    codes: &mut [u8],
-    glyphs: &mut [u8],
-    style: Style,
-) -> Style
-    requires { PlanesLent panel (InRange panel book.now placed) graphic.old codes.old glyphs.old }
-    ensures { picture_with graphic.new codes.new glyphs.new result
-        ≡ applied panel (operation_of book.now placed) (picture_with graphic.old codes.old glyphs.old style) }
-{
-    match placed {
-        Placed::Text(line, column, from, n) => {
-            lay_text(
-                codes,
+impl Canvas<'_> {
+    ghost use Rattle.picture.specs.Drawn.{drawn, SamePlanes};
+
+    // An operation that was found in the book.
+    #[tactic(auto, unfolding(crate::specs::Picture::applied))]
+    fn apply(&mut self, book: &[u8], placed: Placed)
+        requires { InRange self.old.panel book.now placed }
+        ensures same { SamePlanes self.old self.new }
+        ensures made { drawn self.new ≡ applied self.old.panel (operation_of book.now placed) (drawn self.old) }
+    {
+        let panel = self.panel;
+        match placed {
+            Placed::Text(line, column, from, n) => lay_text(
+                self.codes,
                 panel,
                 line as usize,
                 column as usize,
                 book,
                 from,
                 n as usize,
-            );
-            style
-        }
-        Placed::Rectangle(top, column, height, width, value) => {
-            lay_rectangle(
-                graphic,
+            ),
+            Placed::Rectangle(top, column, height, width, value) => lay_rectangle(
+                self.graphic,
                 panel,
                 top as usize,
                 column as usize,
                 height as usize,
                 width as usize,
                 value,
-            );
-            style
-        }
-        Placed::Dot(x, y, on) => {
-            lay_dot(graphic, panel, x as usize, y as usize, on);
-            style
-        }
-        Placed::Glyph(k, from) => {
-            lay_glyph(glyphs, panel, k, book, from);
-            style
-        }
-        Placed::Cursor(line, column, height, blink) => {
-            let combination = style.combination;
-            Style {
-                combination,
-                cursor: Laid::Over(
-                    Cursor {
-                        x: column,
-                        y: line,
-                        height,
-                    },
-                    blink,
-                ),
+            ),
+            Placed::Dot(x, y, on) => lay_dot(self.graphic, panel, x as usize, y as usize, on),
+            Placed::Glyph(k, from) => lay_glyph(self.glyphs, panel, k, book, from),
+            Placed::Cursor(line, column, height, blink) => {
+                let cursor = Cursor {
+                    x: column,
+                    y: line,
+                    height,
+                };
+                self.style = Style {
+                    cursor: Some(Laid { cursor, blink }),
+                    ..self.style
+                };
             }
-        }
-        Placed::Combine(combination) => {
-            let cursor = style.cursor;
-            Style {
-                combination,
-                cursor,
-            }
+            Placed::Combine(combination) => self.style.combination = combination,
         }
     }
-}
 
-// A body whose operations are all sound.
-fn apply_all(
-    panel: Panel,
-    book: &[u8],
-    start: usize,
-    end: usize,
-    graphic: &mut [u8],
-    codes: &mut [u8],
-    glyphs: &mut [u8],
-    style: Style,
-) -> Style
-    requires drawable_body { DrawableBody panel book.now start end }
-    requires sized { Sized panel graphic.old codes.old glyphs.old }
-    ensures { picture_with graphic.new codes.new glyphs.new result
-        ≡ applied_in panel (operations_from (end - start) panel book.now start end) (picture_with graphic.old codes.old glyphs.old style) }
-{
-    let mut next = start;
-    let mut current = style;
-    loop {
-        let found = read(panel, book, next, end);
-        match found {
-            Found::Operation(placed, behind) => {
-                current = apply(panel, book, placed, graphic, codes, glyphs, current);
-                next = behind;
-            }
-            Found::End => return current,
-            Found::Faulty => return current,
+    // A body whose operations are all sound.
+    pub(crate) fn apply_all(&mut self, book: &[u8], start: usize, end: usize)
+        requires { DrawableBody self.old.panel book.now start end }
+        ensures same { SamePlanes self.old self.new }
+        ensures made { let p = self.old.panel in drawn self.new ≡ applied_in p (operations_from (end - start) p book.now start end) (drawn self.old) }
+    {
+        let mut next = start;
+        while let Ok(Some(standing)) = read(self.panel, book, next, end) {
+            self.apply(book, standing.placed);
+            next = standing.next;
         }
     }
-}
-
-// Graphic bytes 0, text codes 0, glyphs all 0, OR, no cursor.
-fn start_blank(panel: Panel, graphic: &mut [u8], codes: &mut [u8], glyphs: &mut [u8]) -> Style
-    requires { Sized panel graphic.old codes.old glyphs.old }
-    ensures { picture_with graphic.new codes.new glyphs.new result ≡ blank panel }
-{
-    clear(graphic);
-    clear(codes);
-    clear(glyphs);
-    Style {
-        combination: Combination::Or,
-        cursor: Laid::Nowhere,
-    }
-}
-
-// The picture of a body, from a blank one.
-pub(crate) fn picture(
-    panel: Panel,
-    book: &[u8],
-    start: usize,
-    end: usize,
-    graphic: &mut [u8],
-    codes: &mut [u8],
-    glyphs: &mut [u8],
-) -> Style
-    requires drawable_body { DrawableBody panel book.now start end }
-    requires sized { Sized panel graphic.old codes.old glyphs.old }
-    ensures { picture_with graphic.new codes.new glyphs.new result
-        ≡ applied_in panel (operations_from (end - start) panel book.now start end) (blank panel) }
-{
-    let style = start_blank(panel, graphic, codes, glyphs);
-    apply_all(panel, book, start, end, graphic, codes, glyphs, style)
 }

@@ -1,34 +1,20 @@
 // A screen of a book as planes, with no dot of it painted.
-ghost use Rattle.std.specs.Prelude.{◌≡◌};
-ghost use Rattle.picture.specs.Planned.{planned_all, refused_plan, planes_of};
+ghost use Rattle.std.specs.Prelude.{◌≡◌, true, OnOk, OnErr};
+ghost use Rattle.state.specs.State.{valid_panel};
+ghost use Rattle.picture.specs.Ready.{Sized};
+ghost use Rattle.picture.specs.Planned.{planned_all, styled, planes_of};
 
-use super::apply::picture;
-use super::cursor::Laid;
+use super::apply::Canvas;
+use super::plane::clear;
+use super::style::Style;
 use book::check::check;
 use state::panel::Panel;
-use state::registers::Combination;
+use state::refusal::{Refusal, Refused};
 
-// A number and place; OR and no cursor where it was refused.
-#[derive(Clone, Copy)]
-pub struct Planned {
-    pub number: u8,
-    pub place: usize,
-    pub combination: Combination,
-    pub cursor: Laid,
-}
-
-fn refuse(number: u8, place: usize) -> Planned
-    ensures { result ≡ refused_plan number place }
-{
-    Planned {
-        number,
-        place,
-        combination: Combination::Or,
-        cursor: Laid::Nowhere,
-    }
-}
-
-// The picture's planes, unless the panel, a length, the book or the screen is refused.
+// Planes as parameters: docs/PROMISES.md names this; the draw program and difference hand in parts of their arrays.
+/// The planes of a screen's picture, asked for by its key, and its style: `graphic` of C·8L bytes, `codes` of C·L, `glyphs` of 1,024.
+/// Refused, with the planes as they were: a panel that is not valid, a plane of another length, a wrong book or screen with its place.
+#[tactic(auto, unfolding(crate::specs::Planned::planes_of))]
 pub fn planes(
     panel: Panel,
     book: &[u8],
@@ -36,33 +22,32 @@ pub fn planes(
     graphic: &mut [u8],
     codes: &mut [u8],
     glyphs: &mut [u8],
-) -> Planned
-    ensures { planned_all result graphic.new codes.new glyphs.new
+) -> Result<Style, Refused>
+    ensures planned { planned_all (styled result) graphic.new codes.new glyphs.new
         ≡ planes_of panel book.now key graphic.old codes.old glyphs.old }
+    ensures lent { OnOk result ((valid_panel panel ≡ true) × Sized panel graphic.new codes.new glyphs.new) }
+    ensures err { OnErr result ((graphic.new ≡ graphic.old) × (codes.new ≡ codes.old) × (glyphs.new ≡ glyphs.old)) }
 {
-    let valid = panel.valid();
-    if !valid {
-        return refuse(1, 0);
+    if !panel.valid() {
+        return Err(Refusal::Invalid.into());
     }
     let fits = (graphic.len() == 8 * panel.lines * panel.columns)
         & (codes.len() == panel.lines * panel.columns)
         & (glyphs.len() == 1024);
     if !fits {
-        return refuse(2, 0);
+        return Err(Refusal::WrongLength.into());
     }
-    let checked = check(panel, book, key);
-    if checked.number != 0 {
-        return refuse(checked.number, checked.place);
-    }
-    let start = checked.start;
-    let end = checked.end;
-    let style = picture(panel, book, start, end, graphic, codes, glyphs);
-    let combination = style.combination;
-    let cursor = style.cursor;
-    Planned {
-        number: 0,
-        place: 0,
-        combination,
-        cursor,
-    }
+    let body = check(panel, book, key)?;
+    clear(graphic);
+    clear(codes);
+    clear(glyphs);
+    let mut canvas = Canvas {
+        panel,
+        graphic,
+        codes,
+        glyphs,
+        style: Style::BLANK,
+    };
+    canvas.apply_all(book, body.start, body.end);
+    Ok(canvas.style)
 }

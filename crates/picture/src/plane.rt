@@ -9,11 +9,7 @@ pub(crate) fn store(plane: &mut [u8], at: usize, book: &[u8], from: usize, n: us
     requires n_in_bounds_2 { from + n ≤ length book.now }
     ensures { plane.new ≡ sets plane.old at (take n (drop from book.now)) }
 {
-    let mut i: usize = 0;
-    while i < n {
-        plane[at + i] = book[from + i];
-        i += 1;
-    }
+    plane[at..at + n].copy_from_slice(&book[from..from + n]);
 }
 
 // One byte n times from a place on.
@@ -21,16 +17,13 @@ pub(crate) fn fill(plane: &mut [u8], at: usize, n: usize, value: u8)
     requires { at + n ≤ length plane.old }
     ensures { plane.new ≡ sets plane.old at (replicate n value) }
 {
-    let mut i: usize = 0;
-    while i < n {
-        plane[at + i] = value;
-        i += 1;
-    }
+    plane[at..at + n].fill(value);
 }
 
+// Zeros, all of it.
+#[tactic(auto, unfolding(ground::specs::Lists::zeros))]
 pub(crate) fn clear(plane: &mut [u8])
     ensures { plane.new ≡ zeros (length plane.old) }
 {
-    let n = plane.len();
-    fill(plane, 0, n, 0);
+    plane.fill(0);
 }

@@ -4,24 +4,26 @@ ghost use Rattle.playback.specs.Play.{begun_of, counted_on, played_all, play_of,
 
 use controller::run::{Ran, run, run_stopping};
 use state::panel::Panel;
+use state::refusal::Refusal;
 use state::registers::Registers;
 
-// The run so far, and how many answers the part gave.
-#[derive(Clone, Copy)]
+// kept, here and below: a run's refusal stands in `Ran` as a number
+/// The run so far, and how many answers the part gave.
+#[derive(Clone, Copy, Debug, PartialEq, Eq)]
 pub struct Played {
     pub ran: Ran,
     pub given: usize,
 }
 
-// Likewise, and how many pairs of the part were skipped.
-#[derive(Clone, Copy)]
+/// Likewise, and how many pairs of the part were skipped.
+#[derive(Clone, Copy, Debug, PartialEq, Eq)]
 pub struct PlayedOn {
     pub ran: Ran,
     pub given: usize,
     pub skipped: usize,
 }
 
-// Nothing played yet.
+/// Nothing played yet.
 pub fn begin(registers: Registers) -> Ran
     ensures { result ≡ begun_of registers }
 {
@@ -39,28 +41,21 @@ fn counted(past: Ran, part: Ran) -> Ran
     ensures { result ≡ counted_on past part }
 {
     let registers = part.registers;
-    let taken = std::num::wrapping_add_usize(past.taken, part.taken);
-    let answers = std::num::wrapping_add_usize(past.answers, part.answers);
-    let there = std::num::wrapping_add_usize(past.taken, part.place);
-    if part.number == 0 {
-        return Ran {
-            number: 0,
-            place: 0,
-            taken,
-            answers,
-            registers,
-        };
-    }
+    let taken = past.taken.wrapping_add(part.taken);
+    let answers = past.answers.wrapping_add(part.answers);
+    let there = past.taken.wrapping_add(part.place);
+    let place = if part.number == 0 { 0 } else { there };
     Ran {
         number: part.number,
-        place: there,
+        place,
         taken,
         answers,
         registers,
     }
 }
 
-// The next part of a log, whole pairs, with room of its own for its answers. A run that was refused goes no further.
+/// The next part of a log, whole pairs, with room of its own for its answers, a byte each. A run that was refused goes no further.
+#[tactic(auto, unfolding(crate::specs::Play::play_of))]
 pub fn play(
     panel: Panel,
     past: Ran,
@@ -86,7 +81,9 @@ pub fn play(
     }
 }
 
-// The same by the ordinary run, with a list of its own for the pairs skipped, their places counted from the part's start.
+// Two functions: docs/PROMISES.md names both, each with a theorem of its own.
+/// The same by the ordinary run, with a list of its own for the pairs skipped, two numbers each, their places counted from the part's start.
+#[tactic(auto, unfolding(crate::specs::Play::play_on_of))]
 pub fn play_on(
     panel: Panel,
     heard: Ran,
@@ -125,7 +122,7 @@ pub fn play_on(
     }
 }
 
-// The run of the whole log, by the lengths of memory, ROM and log: 8 where the log's is odd, behind 1 and 2, and then no pair counts.
+/// The run of the whole log, by the lengths of memory, ROM and log: 8 where the log's is odd, behind 1 and 2, and then no pair counts.
 pub fn close(
     panel: Panel,
     registers: Registers,
@@ -141,7 +138,7 @@ pub fn close(
     let odd = valid & lent & (bytes % 2 != 0);
     if odd {
         return Ran {
-            number: 8,
+            number: Refusal::OddLength.number(),
             place: bytes / 2,
             taken: 0,
             answers: 0,

@@ -7,14 +7,12 @@ ghost use Rattle.printed.specs.Printed.{character_row, characters};
 fn fill_characters(rom: &mut [u8])
     ensures { rom.new ≡ build (length rom.old) character_row }
 {
-    let mut i: usize = 0;
-    while i < rom.len() {
-        rom[i] = ((i / 8 + i % 8) % 256) as u8;
-        i += 1;
+    for (i, row) in rom.iter_mut().enumerate() {
+        *row = ((i / 8 + i % 8) % 256) as u8;
     }
 }
 
-// The character ROM.
+/// The character ROM of the bench.
 pub fn character_rom() -> [u8; 1024]
     ensures value { result ≡ characters }
     ensures value_2 { 1024 ≡ length result }
@@ -24,10 +22,18 @@ pub fn character_rom() -> [u8; 1024]
     rom
 }
 
-// Memory that nothing was stored in.
+/// N zeros. A room of millions is made by this, and not in place: its length is then a fact, which no proof counts out.
+pub fn zeroed<const N: usize>() -> [u8; N]
+    ensures value { result ≡ zeros N }
+    ensures size { N ≡ length result }
+{
+    [0; N]
+}
+
+/// Memory that nothing was stored in.
 pub fn empty_memory() -> [u8; 65536]
     ensures value { result ≡ zeros 65536 }
     ensures value_2 { 65536 ≡ length result }
 {
-    [0; 65536]
+    zeroed()
 }

@@ -2,17 +2,17 @@
 ghost use Rattle.std.specs.Prelude.{◌≡◌, get_or, take, drop};
 ghost use Rattle.printed.specs.Printed.{panel_in};
 
-use ground::bytes::lesser;
 use state::panel::Panel;
 
-// A byte of the input, 0 where it is missing.
+// The body of contents' `byte_at` and of `number_in` below: docs/PROMISES.md names each.
+/// A byte of the input, 0 where it is missing.
 pub fn byte_in(input: &[u8], at: usize) -> u8
     ensures { result ≡ get_or input.now at 0 }
 {
-    if at < input.len() { input[at] } else { 0 }
+    input.get(at).copied().unwrap_or(0)
 }
 
-// C, L, w; that it is in two halves is said beside them.
+/// C, L, w; that it is in two halves is said beside them.
 pub fn panel_in(input: &[u8], dual: bool) -> Panel
     ensures { result ≡ panel_in dual input.now }
 {
@@ -24,25 +24,23 @@ pub fn panel_in(input: &[u8], dual: bool) -> Panel
     }
 }
 
-// The input behind its first bytes, nothing where it ends before.
+/// The input behind its first bytes, nothing where it ends before.
 pub fn rest_in(input: &[u8], head: usize) -> &[u8]
     ensures { result.now ≡ drop head input.now }
 {
-    let start = lesser(head, input.len());
-    &input[start..]
+    &input[head.min(input.len())..]
 }
 
-// The input's first bytes, all of it where it ends before.
+/// The input's first bytes, all of it where it ends before.
 pub fn start_in(input: &[u8], most: usize) -> &[u8]
     ensures { result.now ≡ take most input.now }
 {
-    let end = lesser(most, input.len());
-    &input[..end]
+    &input[..most.min(input.len())]
 }
 
-// A number of a list, 0 past its end.
+/// A number of a list, 0 past its end.
 pub fn number_in(list: &[usize], at: usize) -> usize
     ensures { result ≡ get_or list.now at 0 }
 {
-    if at < list.len() { list[at] } else { 0 }
+    list.get(at).copied().unwrap_or(0)
 }

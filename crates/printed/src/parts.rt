@@ -7,6 +7,7 @@ use crate::put::{put_first_line, put_frame_lines, put_hex_lines, put_refusal};
 use crate::screen::is_framed;
 use state::panel::Panel;
 
+// Number and place are no Result, here and below: docs/PROMISES.md names these, and a caller may give any number.
 // The first line at the start of `out`, and its length; 0 where the room has less than 112 bytes.
 pub fn print_line(pairs: usize, answers: usize, number: u8, place: usize, out: &mut [u8]) -> usize
     ensures { printed result out.new ≡ print_line_of pairs answers number place out.old }

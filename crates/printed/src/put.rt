@@ -1,4 +1,5 @@
-// Text written into a lent room at a place; each answers the place after it.
+// Text written into a lent room at a place; each answers the place after it. By hand, and not by `write!`: the theorems on what is printed
+// say which digits stand in the room, and no clause says what `write!` leaves in one that is lent.
 ghost use Rattle.std.specs.Prelude.{◌≡◌, [], ◌∷◌, ◌++◌, ◌+◌, ◌*◌, ◌/◌, ◌≤◌, ◌<◌, length};
 ghost use Rattle.ground.specs.Packing.{row_bytes};
 ghost use Rattle.printed.specs.Put.{TextPut};
@@ -22,10 +23,8 @@ fn put_text(out: &mut [u8], at: usize, text: &[u8]) -> usize
     ensures { TextPut out.old at text.now out.new result }
 {
     let mut w = at;
-    let mut i: usize = 0;
-    while i < text.len() {
-        w = put_byte(out, w, text[i]);
-        i += 1;
+    for byte in text {
+        w = put_byte(out, w, *byte);
     }
     w
 }
@@ -104,10 +103,8 @@ pub(crate) fn put_hex_lines(out: &mut [u8], at: usize, given: usize, answers: &[
     ensures { TextPut out.old at (hex_lines given answers.now) out.new result }
 {
     let mut w = at;
-    let mut i: usize = 0;
-    while i < given {
+    for i in 0..given {
         w = put_hex_line(out, w, answers[i]);
-        i += 1;
     }
     w
 }
@@ -124,11 +121,10 @@ fn put_dot_line(out: &mut [u8], at: usize, frame: &[u8], from: usize, dots: usiz
     ensures { TextPut out.old at (dot_line frame.now from dots) out.new result }
 {
     let mut w = at;
-    let mut x: usize = 0;
-    while x < dots {
+    // over numbers, here and below: a dot is a bit of a byte, and `frame_line` has a row by its number
+    for x in 0..dots {
         let dot = bit(frame[from + x / 8], 7 - x % 8);
         w = put_byte(out, w, dot_mark(dot));
-        x += 1;
     }
     put_byte(out, w, b'\n')
 }
@@ -141,13 +137,12 @@ pub(crate) fn put_frame_lines(out: &mut [u8], at: usize, panel: Panel, frame: &[
     ensures { TextPut out.old at (frame_lines panel frame.now) out.new result }
 {
     let dots = panel.columns * panel.width;
+    // no `div_ceil`: as the definition `row_bytes` has it
     let bytes = (dots + 7) / 8;
     let rows = 8 * panel.lines;
     let mut w = at;
-    let mut row: usize = 0;
-    while row < rows {
+    for row in 0..rows {
         w = put_dot_line(out, w, frame, row * bytes, dots);
-        row += 1;
     }
     w
 }

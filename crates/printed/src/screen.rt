@@ -8,6 +8,7 @@ ghost use Rattle.printed.specs.Ready.{Lines};
 use crate::put::{put_first_line, put_frame_lines, put_refusal};
 use state::panel::Panel;
 
+// By number, here and below: `print_picture` and `print_rehearsal` hand theirs on.
 // A screen that was not refused has a valid panel and its frame.
 pub(crate) fn is_framed(panel: Panel, number: u8, frame: &[u8]) -> bool
     ensures { result ≡ framed panel number frame.now }
@@ -35,6 +36,7 @@ pub(crate) fn put_screen(panel: Panel, number: u8, frame: &[u8], out: &mut [u8],
     put_frame_lines(out, at, panel, frame)
 }
 
+// The number and the place are no Result: docs/PROMISES.md names this function, and a caller may give any number.
 // A picture's text at the start of `out`, and its length; 0 where a lent length is wrong.
 pub fn print_picture(panel: Panel, number: u8, place: usize, frame: &[u8], out: &mut [u8]) -> usize
     ensures { printed result out.new ≡ print_picture_of panel number place frame.now out.old }

@@ -26,9 +26,7 @@ use Rattle.writer.specs.Written.{Wrote, wrote}
 use Rattle.writer.proofs.Lengths.{stream-length}
 use Rattle.asking.specs.Asking.{status_pair, asked_pairs, ask_screen, asking_of}
 use Rattle.asking.proofs.Spreads.{asked-pairs-length}
-use Rattle.inspection.specs.declared.look.Named.{Named}
-use Rattle.inspection.specs.declared.look.Named.TheVariants.{Nothing}
-use Rattle.inspection.specs.declared.look.Looked.{Looked}
+use Rattle.inspection.specs.Named.{Named, Nothing, Looked}
 use Rattle.inspection.specs.Look.{ready_for, needs_asking, first_named, look_answered, unseen, Watched, look_at, watch_by, watch_step}
 use Rattle.inspection.specs.Inspected.{InspectedAll, inspected_all, unnamed, inspected_of, begun_watch, inspect_of}
 use Rattle.inspection.specs.Claims.{own_run, own_answers}

@@ -12,7 +12,7 @@ use Rattle.state.specs.declared.panel.Panel.{Panel}
 use Rattle.state.specs.declared.registers.Registers.{Registers}
 use Rattle.state.specs.Attribute.{attributed, look_of}
 use Rattle.display.specs.Displayed.{glyph_row}
-use Rattle.sight.specs.declared.position.Position.TheVariants.{At, Nowhere}
+use Rattle.sight.specs.Located.{At, Nowhere}
 use Rattle.sight.specs.Position.{position_of}
 use Rattle.sight.proofs.Positions.{position_at, position-none}
 use Rattle.effects.specs.Effect.{pushed}

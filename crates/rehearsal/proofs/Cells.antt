@@ -23,8 +23,7 @@ use Rattle.writer.specs.Homes.{graphic_home, text_home, glyph_home}
 use Rattle.state.proofs.Halves.{y-same}
 use Rattle.state.proofs.Sizes.{some-width}
 use Rattle.writer.proofs.Apart.{graphic-below-text, text-below-glyphs}
-use Rattle.picture.specs.declared.cursor.Laid.{Laid}
-use Rattle.picture.specs.declared.cursor.Laid.TheVariants.{Nowhere, Over}
+use Rattle.picture.specs.Laid.{Laid, Nowhere, Over}
 use Rattle.picture.specs.Picture.{Picture, lit_in, covered_by, picture_cell, picture_frame}
 use Rattle.picture.specs.Layers.{glyph_in, plane_text, plane_graphic}
 use Rattle.rehearsal.proofs.Areas.{laid, graphic-at, text_at, glyph-at}

@@ -19,15 +19,14 @@ use Rattle.state.specs.declared.registers.Target.TheVariants as target
 use Rattle.controller.specs.Access.{Pair, step_of}
 use Rattle.effects.specs.Machine.{Machine, machine}
 use Rattle.controller.proofs.Takes.{Takes, takes-both, resting, off-taken, word-taken, mode-taken, show-taken}
-use Rattle.contents.specs.declared.ask.Asked.{Asked}
-use Rattle.contents.specs.declared.ask.Asked.TheVariants.{Body, Refused}
+use Rattle.contents.specs.Replies.{Asked, Body, Refused}
 use Rattle.book.specs.Operation.{Operation}
 use Rattle.book.specs.Screen.{screen, screen_in, screen_of}
 use Rattle.contents.specs.Asked.{asked_of}
 use Rattle.writer.specs.Homes.{graphic_home, text_home, glyph_home}
 use Rattle.writer.specs.Stream.{block, set_up, opening, body_pairs, stream_of}
 use Rattle.writer.proofs.Apart.{graphic-below-text, text-below-glyphs}
-use Rattle.picture.specs.declared.cursor.Laid.TheVariants.{Nowhere}
+use Rattle.picture.specs.Laid.{Nowhere}
 use Rattle.picture.specs.Picture.{Picture, blank, with_planes, picture_of}
 use Rattle.rehearsal.proofs.Areas.{laid}
 use Rattle.rehearsal.proofs.Simulated.{plane_at, display_for, machine_for, Shape, Simulates, sim-both, sim-graphic, sim-codes, sim-glyphs, sim-body}

@@ -11,24 +11,26 @@ use borrow.Author.Tests.{eqb-true, eq-eqb, le-ltb}
 use Rattle.ground.proofs.Tests.{both, both_left, both_right, settled}
 use Rattle.state.specs.declared.panel.Panel.{Panel}
 use Rattle.state.specs.declared.registers.Registers.{Registers}
-use Rattle.state.specs.declared.reply.Reply.{Reply}
+use Rattle.std.specs.Prelude.{Ok, Err}
+use Rattle.state.specs.declared.refusal.Refusal.{Refusal}
+use Rattle.state.specs.declared.refusal.Refused.{Refused}
+use Rattle.state.proofs.RefusalNumbers.{not_zero}
+use Rattle.state.specs.Replies.{Reply, reply}
 use Rattle.state.specs.Sizes.{frame_size, valid_size}
 use Rattle.state.proofs.Sizes.{is-size}
 use Rattle.state.specs.State.{valid_panel, valid_registers}
-use Rattle.display.specs.Frame.{lent_lengths, frame_fits, Painted, painted, paint_of}
+use Rattle.display.specs.Frame.{lent_lengths, frame_fits, Painted, painted, paint_of, reply_of, frame_of}
 use Rattle.display.proofs.Doors.{painted-is}
 use Rattle.controller.specs.declared.run.Ran.{Ran}
 use Rattle.controller.specs.Run.{log_of, RanAll, ran_all, stopping_of}
 use Rattle.book.specs.Operation.{Operation}
 use Rattle.book.specs.Screen.{Screen, screen, refused, screen_of}
-use Rattle.writer.specs.declared.written.Written.{Written}
 use Rattle.writer.specs.Stream.{stream_of, count_of}
-use Rattle.writer.specs.Written.{Wrote, wrote_all, wrote, write_screen, write_of}
+use Rattle.writer.specs.Written.{Written, written_reply, Wrote, wrote_all, wrote, write_screen, write_of}
 use Rattle.writer.proofs.Answers.{Streamed, write-accepted}
 use Rattle.picture.specs.Picture.{picture_of, picture_frame}
-use Rattle.rehearsal.specs.declared.rehearse.Rehearsed.{Rehearsed}
 use Rattle.rehearsal.specs.Demand3.{Shows}
-use Rattle.rehearsal.specs.Rehearsed.{Rehearsal, rehearsed_all, refused_rehearsal, refusal, shown_of, rehearse_screen, rehearse_of, Outright}
+use Rattle.rehearsal.specs.Rehearsed.{Rehearsed, rehearsed_reply, Rehearsal, rehearsed_all, refused_rehearsal, refusal, shown_of, rehearse_screen, rehearse_of, Outright}
 use Rattle.rehearsal.proofs.Demand3.{holding-length, bits, registers-then}
 
 module _ (p : Panel) (r : Registers) (mem rom book : List ℕ) (number : ℕ) (room frame : List ℕ) where
@@ -45,6 +47,15 @@ module _ (p : Panel) (r : Registers) (mem rom book : List ℕ) (number : ℕ) (r
   fits-is t v i e =
       sym (λ k. lent_lengths mem rom && eqb (length frame) (is-size p (both_left (valid_panel p) (valid_registers r) v) i k)) ∙ e
 
+  -- past the tests at the door
+  pub record Door : Type 0 where
+    pub valid : (valid_panel p && valid_registers r) ≡ true
+    pub lent : (lent_lengths mem rom && frame_fits p frame) ≡ true
+
+  pub door-open : {a b : Bool} {n : ℕ} → a ≡ valid_panel p → b ≡ valid_registers r → (a && b) ≡ true → n ≡ valid_size p (frame_size p)
+      → (lent_lengths mem rom && eqb (length frame) n) ≡ true → Door
+  door-open i j e k f = let v = valid-is true i j e in record { valid = v; lent = fits-is true v k f }
+
   -- a refusal that leaves memory as it was says nothing of the frame
   refuses : {x : Rehearsed} {f : List ℕ} → (x.number ≡ 0 → ⊥) → Outright p r mem rom book number x mem f
   refuses nz = record { picture = λ z. absurd (nz z); pairs = λ z. absurd (nz z); outside = λ i e. refl }
@@ -57,11 +68,9 @@ module _ (p : Panel) (r : Registers) (mem rom book : List ℕ) (number : ℕ) (r
       ap (λ (t : Bool). cond t (cond (lent_lengths mem rom && frame_fits p frame) (rehearse_screen p r mem rom room frame (screen_of p book number)) (refusal p r mem rom room frame 2 0)) (refusal p r mem rom room frame 1 0))
       (sym e)
 
-  pub rehearse-1 : {x : Rehearsed} → (valid_panel p && valid_registers r) ≡ false → x ≡ refused_rehearsal 1 0 r → Meets x mem room frame
-  rehearse-1 {x} e h = (
-    ap (λ (y : Rehearsed). rehearsed_all y mem room frame) h ∙ door false e,
-    refuses (λ z. let n : x.number ≡ 1 = ap (λ (y : Rehearsed). y.number) h in omega arith),
-  )
+  pub rehearse-1 : {a b : Bool} → a ≡ valid_panel p → b ≡ valid_registers r → (a && b) ≡ false
+      → refusal p r mem rom room frame 1 0 ≡ rehearse_of p r mem rom book number room frame
+  rehearse-1 i j e = door false (valid-is false i j e)
 
   module _ (v : (valid_panel p && valid_registers r) ≡ true) where
     inner : (t : Bool) → (lent_lengths mem rom && frame_fits p frame) ≡ t
@@ -69,11 +78,8 @@ module _ (p : Panel) (r : Registers) (mem rom book : List ℕ) (number : ℕ) (r
     inner t e =
         ap (λ (t : Bool). cond t (rehearse_screen p r mem rom room frame (screen_of p book number)) (refusal p r mem rom room frame 2 0)) (sym e) ∙ door true v
 
-    pub rehearse-2 : {x : Rehearsed} → (lent_lengths mem rom && frame_fits p frame) ≡ false → x ≡ refused_rehearsal 2 0 r → Meets x mem room frame
-    rehearse-2 {x} e h = (
-      ap (λ (y : Rehearsed). rehearsed_all y mem room frame) h ∙ inner false e,
-      refuses (λ z. let n : x.number ≡ 2 = ap (λ (y : Rehearsed). y.number) h in omega arith),
-    )
+    inner-2 : (lent_lengths mem rom && frame_fits p frame) ≡ false → refusal p r mem rom room frame 2 0 ≡ rehearse_of p r mem rom book number room frame
+    inner-2 e = inner false e
 
     module _ (l : (lent_lengths mem rom && frame_fits p frame) ≡ true) {w : Written} {after : List ℕ} (h : wrote_all w after ≡ write_of p book number room) where
       -- what the writer refused is refused with its number and place, and the room is as it was
@@ -87,17 +93,14 @@ module _ (p : Panel) (r : Registers) (mem rom book : List ℕ) (number : ℕ) (r
           go false e = absurd (nz (ap (λ (o : Wrote). o.written.number) e))
       same-refusal (refused n place) e nz = ap (λ (o : Wrote). rehearsed_all (refused_rehearsal o.written.number o.written.place r) mem o.room frame) e
 
-      pub rehearse-refused : {x : Rehearsed} → (w.number ≡ 0 → ⊥) → x ≡ refused_rehearsal w.number w.place r → Meets x mem after frame
+      rehearse-refused : (w.number ≡ 0 → ⊥) → rehearsed_all (refused_rehearsal w.number w.place r) mem after frame ≡ rehearse_of p r mem rom book number room frame
       unfolding write_of
-      rehearse-refused {x} nz e = (
-        ap (λ (y : Rehearsed). rehearsed_all y mem after frame) e
-            ∙ same-refusal (screen_of p book number) (h ∙ ap (λ (t : Bool). cond t (write_screen p room (screen_of p book number)) (wrote 1 0 0 room)) (both_left (valid_panel p) (valid_registers r) v)) nz
-            ∙ inner true l,
-        refuses (λ z. nz (sym (ap (λ (y : Rehearsed). y.number) e) ∙ z)),
-      )
+      rehearse-refused nz =
+          same-refusal (screen_of p book number) (h ∙ ap (λ (t : Bool). cond t (write_screen p room (screen_of p book number)) (wrote 1 0 0 room)) (both_left (valid_panel p) (valid_registers r) v)) nz
+          ∙ inner true l
 
       module _ (bytes : (i : ℕ) → get_or book i 0 < 256) (z : w.number ≡ 0) where
-        pub streamed : Streamed p book number room w after
+        streamed : Streamed p book number room w after
         streamed = write-accepted p book number room h z
 
         valid : valid_registers r ≡ true
@@ -135,12 +138,19 @@ module _ (p : Panel) (r : Registers) (mem rom book : List ℕ) (number : ℕ) (r
             long : length m ≡ 65536
             long = ap length shown.memory ∙ holding-length p mem (picture_of p os) ∙ size
 
+            painted-0 : painted y f ≡ painted (reply_of 0) (frame_of p ran.registers.display m rom)
+            painted-0 =
+                d
+                ∙ painted-is p ran.registers m rom frame (both streamed.valid shown.valid)
+                (both (both (eq-eqb (length m) 65536 long) (eq-eqb (length rom) 1024 characters)) (both_right (lent_lengths mem rom) _ l))
+
+            -- the frame is not refused
+            no-refusal : y.number ≡ 0
+            no-refusal = ap (λ (o : Painted). o.reply.number) painted-0
+
             picture-is : f ≡ picture_frame p rom (picture_of p os) r.display.phase
             picture-is =
-                ap (λ (o : Painted). o.frame)
-                (d
-                ∙ painted-is p ran.registers m rom frame (both streamed.valid shown.valid)
-                (both (both (eq-eqb (length m) 65536 long) (eq-eqb (length rom) 1024 characters)) (both_right (lent_lengths mem rom) _ l)))
+                ap (λ (o : Painted). o.frame) painted-0
                 ∙ shown.frame ran.registers.display.phase
                 ∙ ap (picture_frame p rom (picture_of p os)) shown.phase
 
@@ -153,7 +163,7 @@ module _ (p : Panel) (r : Registers) (mem rom book : List ℕ) (number : ℕ) (r
             is-shown =
                 λ i. rehearsed_all (record { number = 0; place = 0; pairs = streamed.pairs i; registers = registers-are i }) (shown.memory i) (streamed.holds i) (picture-is i)
 
-            pub rehearse-0 : Meets (record { number = 0; place = 0; pairs = w.pairs; registers = ran.registers }) m after f
+            rehearse-0 : Meets (record { number = 0; place = 0; pairs = w.pairs; registers = ran.registers }) m after f
             rehearse-0 = (
               is-shown
                   ∙ sym
@@ -167,6 +177,31 @@ module _ (p : Panel) (r : Registers) (mem rom book : List ℕ) (number : ℕ) (r
                 outside = λ i e. shown.outside i e;
               },
             )
+
+-- past the door
+module _ (p : Panel) (r : Registers) (mem rom book : List ℕ) (number : ℕ) (room frame : List ℕ) where
+  pub rehearse-2 : {a b : Bool} {n : ℕ} → a ≡ valid_panel p → b ≡ valid_registers r → (a && b) ≡ true → n ≡ valid_size p (frame_size p)
+      → (lent_lengths mem rom && eqb (length frame) n) ≡ false → refusal p r mem rom room frame 2 0 ≡ rehearse_of p r mem rom book number room frame
+  rehearse-2 i j e k f =
+      let v = valid-is p r mem rom book number room frame true i j e in
+      inner-2 p r mem rom book number room frame v (fits-is p r mem rom book number room frame false v k f)
+
+  module _ (d : Door p r mem rom book number room frame) {after : List ℕ} where
+    pub rehearse-err : (e : Refused) → wrote_all (written_reply (Err e)) after ≡ write_of p book number room
+        → rehearsed_all (rehearsed_reply r (Err e)) mem after frame ≡ rehearse_of p r mem rom book number room frame
+    rehearse-err e h = rehearse-refused p r mem rom book number room frame d.valid d.lent h (not_zero e.refusal)
+
+    module _ (bytes : (i : ℕ) → get_or book i 0 < 256) {n : ℕ} (h : wrote_all (written_reply (Ok n)) after ≡ write_of p book number room) where
+      pub written : Streamed p book number room (written_reply (Ok n)) after
+      written = write-accepted p book number room h refl
+
+      module _ (buffer : List ℕ) {ran : Ran} {m c : List ℕ} (k : ran_all ran m c ≡ stopping_of p r mem rom (take (2 * n) after) n buffer) {f : List ℕ} where
+        pub rehearse-paints : (e : Refusal) → painted (reply (Err e)) f ≡ paint_of p ran.registers m rom frame → ⊥
+        rehearse-paints e y = not_zero e (no-refusal p r mem rom book number room frame d.valid d.lent h bytes refl buffer k y)
+
+        pub rehearse-ok : painted (reply (Ok tt)) f ≡ paint_of p ran.registers m rom frame
+            → Meets p r mem rom book number room frame (record { number = 0; place = 0; pairs = n; registers = ran.registers }) m after f
+        rehearse-ok y = rehearse-0 p r mem rom book number room frame d.valid d.lent h bytes refl buffer k y
 
 -- two replies that meet the promise of `rehearse` are equal
 pub rehearse-settled : {x y : Rehearsed} {m n b c f g : List ℕ} (p : Panel) (r : Registers) (mem rom book : List ℕ) (number : ℕ) (room frame : List ℕ)

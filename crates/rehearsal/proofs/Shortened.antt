@@ -20,8 +20,7 @@ use Rattle.effects.specs.Machine.{Machine}
 use Rattle.controller.proofs.Takes.{Takes, takes-both, resting, word-taken, show-taken}
 use Rattle.writer.specs.Homes.{graphic_home, text_home, glyph_home}
 use Rattle.writer.specs.Stream.{point_to, code, combination_code, operation_pairs}
-use Rattle.picture.specs.declared.cursor.Laid.{Laid}
-use Rattle.picture.specs.declared.cursor.Laid.TheVariants.{Nowhere, Over}
+use Rattle.picture.specs.Laid.{Laid, Nowhere, Over}
 use Rattle.picture.specs.Picture.{Picture, with_planes, applied}
 use Rattle.difference.specs.Short.{change_at, changes_from, end_pairs, short_over, short_stream}
 use Rattle.difference.specs.Differing.{LaidRange}

@@ -22,7 +22,7 @@ use Rattle.display.proofs.Plain.{plain}
 use Rattle.codes.specs.Command.{decode_of}
 use Rattle.state.specs.declared.registers.Target.TheVariants as target
 use Rattle.codes.specs.declared.command.Command.TheVariants.{Mode}
-use Rattle.codes.specs.declared.decode.Decoded.TheVariants.{Defined}
+use Rattle.codes.specs.Decoded.{Defined}
 use Rattle.codes.proofs.Computed.{decode-height, decode-bit, decode-cursor}
 use Rattle.controller.specs.Access.{Pair, step_of}
 use Rattle.effects.specs.Machine.{Machine}
@@ -40,8 +40,7 @@ use Rattle.state.specs.Halves.{cursor_y}
 use Rattle.state.proofs.Halves.{y-few}
 use Rattle.state.proofs.Sizes.{some-width, columns-few}
 use Rattle.book.proofs.Places.{bit-few}
-use Rattle.picture.specs.declared.cursor.Laid.{Laid}
-use Rattle.picture.specs.declared.cursor.Laid.TheVariants.{Nowhere, Over}
+use Rattle.picture.specs.Laid.{Laid, Nowhere, Over}
 use Rattle.picture.specs.Picture.{Picture, with_planes, filled, applied, applied_all}
 use Rattle.rehearsal.proofs.Areas.{laid, Fits, store-graphic, store-text, store-glyphs, set-graphic, graphic-at}
 

@@ -9,7 +9,7 @@ use Rattle.state.specs.Attribute.{attributed}
 use Rattle.display.specs.Displayed.{glyph_row, displayed_byte}
 use Rattle.effects.specs.Effect.{status_of}
 use Rattle.effects.specs.Machine.{Machine, machine}
-use Rattle.sight.specs.declared.position.Position.TheVariants.{At}
+use Rattle.sight.specs.Located.{At}
 use Rattle.sight.specs.Position.{position_of}
 use Rattle.controller.specs.Access.{Pair, datum, code, refused, step_of}
 use Rattle.controller.specs.Run.{Run, whole, short, run_from}

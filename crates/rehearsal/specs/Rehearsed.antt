@@ -1,5 +1,5 @@
 -- Demand 3 as a promise: what rehearsing a screen answers.
-use Rattle.std.specs.Prelude.{◌≡◌, false, cond, ◌&&◌, List, [], ℕ, ◌*◌, ltb, length, get_or}
+use Rattle.std.specs.Prelude.{◌≡◌, false, cond, ◌&&◌, List, [], ℕ, ◌*◌, ltb, length, get_or, Result, Ok, Err}
 use Rattle.std.proofs.lemmas.List.Edits.{sets}
 use Rattle.state.specs.declared.panel.Panel.{Panel}
 use Rattle.state.specs.declared.registers.Registers.{Registers}
@@ -10,8 +10,17 @@ use Rattle.book.specs.Operation.{Operation}
 use Rattle.book.specs.Screen.{Screen, screen, refused, screen_of}
 use Rattle.writer.specs.Stream.{stream_of, count_of}
 use Rattle.picture.specs.Picture.{picture_of, picture_frame}
-use Rattle.rehearsal.specs.declared.rehearse.Rehearsed.{Rehearsed}
+use Rattle.state.specs.declared.refusal.Refused.{Refused}
+use Rattle.state.specs.Refusals.{number_of}
+use Rattle.rehearsal.specs.declared.rehearse.Rehearsed.{Rehearsed as Run}
 use Rattle.rehearsal.specs.Demand3.{in_areas, holding}
+
+-- a number and place, the pairs run, and the registers then
+pub record Rehearsed : Type 0 where
+  pub number : ℕ
+  pub place : ℕ
+  pub pairs : ℕ
+  pub registers : Registers
 
 -- a reply, and the lent memory, room and frame then
 pub record Rehearsal : Type 0 where
@@ -25,6 +34,11 @@ rehearsed_all rehearsed memory room frame = record { rehearsed = rehearsed; memo
 
 abbrev pub refused_rehearsal : ℕ → ℕ → Registers → Rehearsed
 refused_rehearsal n place r = record { number = n; place = place; pairs = 0; registers = r }
+
+-- read from a result; a refusal leaves the registers
+abbrev pub rehearsed_reply : Registers → Result Run Refused → Rehearsed
+rehearsed_reply r (Ok x) = record { number = 0; place = 0; pairs = x.pairs; registers = x.registers }
+rehearsed_reply r (Err e) = refused_rehearsal (number_of e.refusal) e.place r
 
 module _ (p : Panel) (r : Registers) (mem rom room frame : List ℕ) where
   -- a refusal changes nothing

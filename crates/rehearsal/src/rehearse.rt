@@ -1,34 +1,24 @@
 // A screen rehearsed: its stream written, run on a controller, and the frame painted.
-ghost use Rattle.std.specs.Prelude.{◌≡◌, ◌*◌};
-ghost use Rattle.rehearsal.specs.Rehearsed.{refused_rehearsal, rehearsed_all, rehearse_of, Outright};
+ghost use Rattle.std.specs.Prelude.{◌≡◌, OnErr};
+ghost use Rattle.rehearsal.specs.Rehearsed.{rehearsed_reply, rehearsed_all, rehearse_of, Outright};
 
 use controller::run::run_stopping;
 use display::frame::paint;
 use state::panel::Panel;
+use state::refusal::{Refusal, Refused};
 use state::registers::Registers;
 use writer::write::write;
 
-// A number and place, the pairs run, and the registers then.
-#[derive(Clone, Copy)]
+/// The pairs that were run, and the registers then.
+#[derive(Clone, Copy, Debug, PartialEq, Eq)]
 pub struct Rehearsed {
-    pub number: u8,
-    pub place: usize,
     pub pairs: usize,
     pub registers: Registers,
 }
 
-fn refuse(number: u8, place: usize, registers: Registers) -> Rehearsed
-    ensures { result ≡ refused_rehearsal number place registers }
-{
-    Rehearsed {
-        number,
-        place,
-        pairs: 0,
-        registers,
-    }
-}
-
-// The stream in the room, run on the memory from these registers; the frame is then the picture. A refusal changes nothing.
+/// Writes a screen's stream into `room` and runs it from these registers: `memory` of 65,536 bytes and `rom` of 1,024; `frame`, a byte for
+/// each eight dots, is then the picture. Refused, with every lent buffer as it was: `Invalid` panel or registers, `WrongLength`, and what
+/// `write` refuses.
 pub fn rehearse(
     panel: Panel,
     registers: Registers,
@@ -38,25 +28,23 @@ pub fn rehearse(
     number: usize,
     room: &mut [u8],
     frame: &mut [u8],
-) -> Rehearsed
-    ensures frame_after { rehearsed_all result memory.new room.new frame.new
+) -> Result<Rehearsed, Refused>
+    ensures frame_after { rehearsed_all (rehearsed_reply registers result) memory.new room.new frame.new
         ≡ rehearse_of panel registers memory.old rom.now book.now number room.old frame.old }
-    ensures outright { Outright panel registers memory.old rom.now book.now number result memory.new frame.new }
+    ensures outright { Outright panel registers memory.old rom.now book.now number (rehearsed_reply registers result) memory.new frame.new }
+    ensures refused { OnErr result ((memory.new ≡ memory.old) × (room.new ≡ room.old) × (frame.new ≡ frame.old)) }
 {
     let valid = panel.valid() & registers.valid();
     if !valid {
-        return refuse(1, 0, registers);
+        return Err(Refusal::Invalid.into());
     }
     let size = panel.frame_size();
     let fits = (memory.len() == 65536) & (rom.len() == 1024) & (frame.len() == size);
     if !fits {
-        return refuse(2, 0, registers);
+        return Err(Refusal::WrongLength.into());
     }
-    let written = write(panel, book, number, room);
-    if written.number != 0 {
-        return refuse(written.number, written.place, registers);
-    }
-    let end = 2 * written.pairs;
+    let written = write(panel, book, number, room)?;
+    let end = 2 * written;
     let mut none = [0u8; 1];
     let ran = run_stopping(
         panel,
@@ -64,15 +52,13 @@ pub fn rehearse(
         memory,
         rom,
         &room[..end],
-        written.pairs,
+        written,
         &mut none,
     );
     let shown = ran.registers;
-    paint(panel, shown, memory, rom, frame);
-    Rehearsed {
-        number: 0,
-        place: 0,
-        pairs: written.pairs,
+    paint(panel, shown, memory, rom, frame)?;
+    Ok(Rehearsed {
+        pairs: written,
         registers: shown,
-    }
+    })
 }

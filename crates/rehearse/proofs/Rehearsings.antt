@@ -18,8 +18,7 @@ use Rattle.book.specs.Screen.{Screen, screen, refused, screen_of}
 use Rattle.book.proofs.Numbers.{refusal-number}
 use Rattle.writer.specs.Stream.{count_of}
 use Rattle.picture.specs.Picture.{picture_of, picture_frame}
-use Rattle.rehearsal.specs.declared.rehearse.Rehearsed.{Rehearsed}
-use Rattle.rehearsal.specs.Rehearsed.{Rehearsal, rehearsed_all, refusal, shown_of, rehearse_screen, rehearse_of}
+use Rattle.rehearsal.specs.Rehearsed.{Rehearsed, Rehearsal, rehearsed_all, refusal, shown_of, rehearse_screen, rehearse_of}
 use Rattle.printed.specs.declared.told.Told.{Told}
 use Rattle.printed.specs.Printed.{panel_in, first_line, frame_lines, printed, print_text, Reported, reported}
 use Rattle.state.specs.Sizes.{frame_size, valid_size}

@@ -24,6 +24,7 @@ fn empty_room() -> [u8; 2097152]
     [0; 2097152]
 }
 
+// So many parameters: it exists because the frame is a part of an array that its caller owns.
 // A screen rehearsed from reset, as text.
 fn print_screen(
     dual: bool,
@@ -42,18 +43,16 @@ fn print_screen(
     let book = rest_in(input, 5);
     let mut room = empty_room();
     let registers = Registers::reset();
-    let rehearsed = rehearse(panel, registers, memory, rom, book, key, &mut room, frame);
-    let count = print_rehearsal(
-        panel,
-        rehearsed.pairs,
-        rehearsed.number,
-        rehearsed.place,
-        frame,
-        out,
-    );
-    Told {
-        count,
-        number: rehearsed.number,
+    match rehearse(panel, registers, memory, rom, book, key, &mut room, frame) {
+        Ok(run) => {
+            let count = print_rehearsal(panel, run.pairs, 0, 0, frame, out);
+            Told { count, number: 0 }
+        }
+        Err(refused) => {
+            let number = refused.refusal.number();
+            let count = print_rehearsal(panel, 0, number, refused.place, frame, out);
+            Told { count, number }
+        }
     }
 }
 
@@ -78,18 +77,17 @@ fn rehearse_text(dual: bool, rom: &[u8], input: &[u8], out: &mut [u8]) -> Told
     )
 }
 
+// Its own in each program: the room's length and what is shown differ, and a closure would be no plainer.
 // One byte past the limit shows that a book is too long.
 fn main(rt: HostRuntime) {
     let mut rom = character_rom();
-    if !read_rom(&mut rt.stdin(), has_argument(&rt, 1), &mut rom) {
+    if read_rom(&mut rt.stdin(), has_argument(&rt, 1), &mut rom).is_err() {
         return;
     }
     let mut input = [0u8; 32774];
-    let got = read_whole(&mut rt.stdin(), &mut input);
-    if got.failed {
+    let Ok(end) = read_whole(&mut rt.stdin(), &mut input) else {
         return;
-    }
-    let end = got.count;
+    };
     let mut out = [0u8; 196608];
     let told = rehearse_text(has_argument(&rt, 2), &rom, &input[..end], &mut out);
     let count = told.count;

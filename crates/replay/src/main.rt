@@ -7,151 +7,106 @@ use output::{write_answers, write_frame, write_line, write_skipped};
 use playback::play::{begin, close, play, play_on};
 use printed::fill::empty_memory;
 use printed::input::panel_in;
-use report::{STDOUT_FILENO, has_argument, read_exact, read_whole, report};
+use report::{has_argument, read_whole, report};
 use state::panel::Panel;
 use state::registers::Registers;
+use std::io::{Error, ErrorKind, Read, Result};
 
-// The run so far, the bytes read for it, and whether a read or a write failed.
-#[derive(Clone, Copy)]
-struct Heard {
-    ran: Ran,
-    bytes: usize,
-    failed: bool,
-}
+// The bytes of a part of the log, 32,768 pairs, and the parts that are read at most: 2^48 bytes.
+const PART: usize = 65536;
 
-// A part of the log played, its answers written.
+const PARTS: u64 = 4294967296;
+
+// A part of the log played, its answers written: the run so far.
 fn play_part(
-    panel: Panel,
-    past: Ran,
-    memory: &mut [u8],
-    rom: &[u8],
-    part: &[u8],
-    bytes: usize,
-) -> Heard {
-    let mut answers = [0u8; 32768];
-    let played = play(panel, past, memory, rom, part, &mut answers);
-    let written = write_answers(played.given, &answers);
-    let ran = played.ran;
-    Heard {
-        ran,
-        bytes,
-        failed: !written,
-    }
-}
-
-// The same by the ordinary run, with a line for each pair skipped.
-fn go_on(
-    panel: Panel,
-    past: Ran,
-    memory: &mut [u8],
-    rom: &[u8],
-    part: &[u8],
-    bytes: usize,
-) -> Heard {
-    let mut answers = [0u8; 32768];
-    let mut skips = [0usize; 65536];
-    let played = play_on(panel, past, memory, rom, part, &mut answers, &mut skips);
-    let written = write_answers(played.given, &answers);
-    let told = write_skipped(&skips, played.skipped, past.taken);
-    let ran = played.ran;
-    Heard {
-        ran,
-        bytes,
-        failed: !(written & told),
-    }
-}
-
-// The next part of the log, 32,768 pairs where it is not the last, by the run asked for.
-fn next_part(
     rt: HostRuntime,
     panel: Panel,
     past: Ran,
     memory: &mut [u8],
     rom: &[u8],
-    keep: bool,
-) -> Heard {
-    let mut part = io::large_buffer();
-    let got = read_whole(&mut rt.stdin(), &mut part);
-    if got.failed {
-        return Heard {
-            ran: past,
-            bytes: 0,
-            failed: true,
-        };
-    }
-    let whole = got.count / 2 * 2;
-    if keep {
-        go_on(panel, past, memory, rom, &part[..whole], got.count)
-    } else {
-        play_part(panel, past, memory, rom, &part[..whole], got.count)
-    }
+    part: &[u8],
+) -> Result<Ran> {
+    let mut answers = [0u8; PART / 2];
+    let played = play(panel, past, memory, rom, part, &mut answers);
+    write_answers(&rt, played.given, &answers)?;
+    Ok(played.ran)
 }
 
-// Part after part, from reset; the last one is shorter than the others. The turns end behind 2^48 bytes.
-fn play_all(rt: HostRuntime, panel: Panel, memory: &mut [u8], rom: &[u8], keep: bool) -> Heard {
+// The same by the ordinary run, with a line for each pair skipped.
+fn go_on(
+    rt: HostRuntime,
+    panel: Panel,
+    past: Ran,
+    memory: &mut [u8],
+    rom: &[u8],
+    part: &[u8],
+) -> Result<Ran> {
+    let mut answers = [0u8; PART / 2];
+    let mut skips = [0usize; PART];
+    let played = play_on(panel, past, memory, rom, part, &mut answers, &mut skips);
+    write_answers(&rt, played.given, &answers)?;
+    write_skipped(&rt, &skips, played.skipped, past.taken)?;
+    Ok(played.ran)
+}
+
+// `keep` is no closure: that would take six parameters and a promise that it may be called.
+// Part after part, from reset, by the run asked for; the last one is shorter than the others.
+fn play_all(
+    rt: HostRuntime,
+    panel: Panel,
+    memory: &mut [u8],
+    rom: &[u8],
+    keep: bool,
+) -> Result<Ran> {
     let mut ran = begin(Registers::reset());
     let mut bytes: usize = 0;
-    let mut turns: usize = 4294967296;
-    while turns > 0 {
-        let heard = next_part(rt, panel, ran, memory, rom, keep);
-        ran = heard.ran;
-        bytes = std::num::wrapping_add_usize(bytes, heard.bytes);
-        if heard.failed | (heard.bytes < 65536) {
-            return Heard {
-                ran,
-                bytes,
-                failed: heard.failed,
-            };
+    for _ in 0..PARTS {
+        let mut part = [0u8; PART];
+        let count = read_whole(&mut rt.stdin(), &mut part)?;
+        let pairs = &part[..count / 2 * 2];
+        ran = if keep {
+            go_on(rt, panel, ran, memory, rom, pairs)?
+        } else {
+            play_part(rt, panel, ran, memory, rom, pairs)?
+        };
+        bytes = bytes.wrapping_add(count);
+        if count < PART {
+            let registers = Registers::reset();
+            return Ok(close(panel, registers, memory.len(), rom.len(), bytes, ran));
         }
-        turns -= 1;
     }
-    Heard {
-        ran,
-        bytes,
-        failed: true,
-    }
+    Err(Error::from(ErrorKind::FileTooLarge))
 }
 
 // The run's line, and the rows of its frame, which refusals 1 and 8 have not.
-fn show(panel: Panel, ran: Ran, memory: &[u8], rom: &[u8]) -> bool {
-    let written = write_line(STDOUT_FILENO, ran.taken, ran.answers, ran.number, ran.place);
-    if !written | (ran.number == 1) | (ran.number == 8) {
-        return written;
+fn show(rt: HostRuntime, panel: Panel, ran: Ran, memory: &[u8], rom: &[u8]) -> Result<()> {
+    write_line(&rt, ran.taken, ran.answers, ran.number, ran.place)?;
+    if (ran.number == 1) | (ran.number == 8) {
+        return Ok(());
     }
-    let registers = ran.registers;
-    write_frame(panel, registers, memory, rom)
+    write_frame(&rt, panel, ran.registers, memory, rom)
 }
 
-// The log played and shown; then the report.
-fn play_log(rt: HostRuntime, panel: Panel, rom: &[u8], keep: bool) {
-    let mut memory = empty_memory();
-    let heard = play_all(rt, panel, &mut memory, rom, keep);
-    if heard.failed {
-        return;
-    }
-    let past = heard.ran;
-    let registers = Registers::reset();
-    let ran = close(panel, registers, memory.len(), rom.len(), heard.bytes, past);
-    if show(panel, ran, &memory, rom) {
-        report(ran.number);
-    }
-}
-
-fn main(rt: HostRuntime) {
+// The log played and shown, and its refusal number.
+fn replay(rt: HostRuntime) -> Result<u8> {
     let mut rom = [0u8; 1024];
-    if !read_exact(&mut rt.stdin(), &mut rom) {
-        return;
-    }
+    rt.stdin().read_exact(&mut rom)?;
+    // what was not read is 0, as a missing byte counts
     let mut head = [0u8; 3];
-    let got = read_whole(&mut rt.stdin(), &mut head);
-    if got.failed {
-        return;
-    }
+    read_whole(&mut rt.stdin(), &mut head)?;
     // `dual`, `keep going` or both: one, two or three words
     let keep = has_argument(&rt, 2);
     let one = has_argument(&rt, 1) & !keep;
     let three = has_argument(&rt, 3) & !has_argument(&rt, 4);
-    // what was not read is 0, as a missing byte counts
     let panel = panel_in(&head, one | three);
-    play_log(rt, panel, &rom, keep);
+    let mut memory = empty_memory();
+    let ran = play_all(rt, panel, &mut memory, &rom, keep)?;
+    show(rt, panel, ran, &memory, &rom)?;
+    Ok(ran.number)
+}
+
+fn main(rt: HostRuntime) {
+    if let Ok(number) = replay(rt) {
+        report(number);
+    }
 }

@@ -2,68 +2,49 @@
 // dropped of each screen, or the refusal. With an argument the panel is in two halves.
 #![tactic(auto)]
 
-use contents::bytes::byte_at;
 use contents::open::open;
-use ground::bytes::lesser;
-use layout::saving::{Salvaged, salvage};
-use report::{
-    STDERR_FILENO, STDOUT_FILENO, has_argument, put_field_to, put_refusal, read_whole, report,
-};
-use state::panel::Panel;
+use layout::saved::Salvaged;
+use layout::saving::salvage;
+use printed::input::{panel_in, rest_in};
+use report::{STDOUT_FILENO, has_argument, put_refusal, read_whole, report};
+use std::io::{Print, Result};
 
-// C, L, w; a missing byte is 0.
-fn panel_in(input: &[u8], dual: bool) -> Panel {
-    Panel {
-        columns: byte_at(input, 0) as usize,
-        lines: byte_at(input, 1) as usize,
-        width: byte_at(input, 2) as usize,
-        dual,
+// A line for each screen, by its number or identity. What was salvaged opens.
+fn put_report(out: &impl Print, book: &[u8], salvaged: Salvaged) -> Result<()> {
+    if let Ok(spans) = open(book) {
+        for (span, saved) in spans.all().iter().zip(salvaged.all()) {
+            let key = span.key;
+            let kept = saved.kept;
+            let dropped = saved.dropped;
+            println!(out; "screen {key} kept {kept} dropped {dropped}")?;
+        }
     }
-}
-
-fn book_in(input: &[u8]) -> &[u8] {
-    let start = lesser(3, input.len());
-    &input[start..]
-}
-
-fn put_screen(key: u16, kept: usize, dropped: usize) -> bool {
-    let screen = put_field_to(STDERR_FILENO, b"screen ", key as usize);
-    let first = put_field_to(STDERR_FILENO, b" kept ", kept);
-    let second = put_field_to(STDERR_FILENO, b" dropped ", dropped);
-    screen & first & second & io::write_all(STDERR_FILENO, b"\n")
-}
-
-// A line for each screen, by its number or identity.
-fn put_report(book: &[u8], salvaged: Salvaged) -> bool {
-    let spans = open(book);
-    let mut whole = true;
-    for i in 0..lesser(salvaged.count, 64) {
-        whole &= put_screen(spans.keys[i], salvaged.kept[i], salvaged.dropped[i]);
-    }
-    whole
+    Ok(())
 }
 
 // One byte past the limit shows that a book is too long; no saved book is longer than the output.
 fn main(rt: HostRuntime) {
     let mut input = [0u8; 32772];
-    let got = read_whole(&mut rt.stdin(), &mut input);
-    if got.failed {
+    let Ok(end) = read_whole(&mut rt.stdin(), &mut input) else {
         return;
-    }
-    let end = got.count;
-    let panel = panel_in(&input[..end], has_argument(&rt, 1));
+    };
+    let all = &input[..end];
+    let panel = panel_in(all, has_argument(&rt, 1));
+    let book = rest_in(all, 3);
     let mut out = [0u8; 32768];
-    let salvaged = salvage(panel, book_in(&input[..end]), &mut out);
-    if salvaged.number != 0 {
-        if put_refusal(STDERR_FILENO, salvaged.number, salvaged.place) {
-            report(salvaged.number);
+    match salvage(panel, book, &mut out) {
+        Ok(salvaged) => {
+            if io::write_all(STDOUT_FILENO, &out[..salvaged.size.min(32768)])
+                && put_report(&rt.stderr(), book, salvaged).is_ok()
+            {
+                report(0);
+            }
         }
-        return;
-    }
-    let size = lesser(salvaged.size, 32768);
-    if io::write_all(STDOUT_FILENO, &out[..size]) {
-        if put_report(book_in(&input[..end]), salvaged) {
-            report(0);
+        Err(refused) => {
+            let number = refused.refusal.number();
+            if put_refusal(&rt.stderr(), number, refused.place).is_ok() {
+                report(number);
+            }
         }
     }
 }

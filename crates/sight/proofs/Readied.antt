@@ -8,7 +8,7 @@ use Rattle.display.specs.Displayed.{displayed_byte}
 use Rattle.display.specs.Frame.{lent_lengths}
 use Rattle.display.specs.Layers.{Stretch, stretch, row_layers_of}
 use Rattle.display.proofs.Asked.{row-layers-are}
-use Rattle.state.specs.declared.reply.Reply.{Reply}
+use Rattle.state.specs.Replies.{Reply}
 use Rattle.effects.specs.Machine.{Machine, machine}
 use Rattle.sight.specs.Types.{Panel, Display, Registers, Bus, Seen}
 use Rattle.sight.specs.Seen.{layers_of}

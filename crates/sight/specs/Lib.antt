@@ -1,3 +1,5 @@
+pub mod Answered
+pub mod Located
 pub mod Types
 pub mod Seen
 pub mod Position

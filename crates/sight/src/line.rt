@@ -8,8 +8,9 @@ use display::seen::row_layers;
 use state::panel::Panel;
 use state::registers::Display;
 
+// An array and a count, since there is no heap.
 // Up to 80 bytes, and how many.
-#[derive(Clone, Copy)]
+#[derive(Clone, Copy, Debug, PartialEq, Eq)]
 pub(crate) struct Line {
     pub bytes: [u8; 80],
     pub count: usize,
@@ -32,7 +33,7 @@ pub(crate) fn gather(
     let mut text = [0u8; 80];
     let mut graphic = [0u8; 80];
     let mut shown = [0u8; 80];
-    row_layers(
+    let _ = row_layers(
         panel,
         display,
         mem,
@@ -54,12 +55,9 @@ pub(crate) fn store(mem: &mut [u8], address: u16, line: Line)
     requires { (length mem.old ≡ 65536) × (line.count ≤ 80) }
     ensures { mem.new ≡ stored mem.old address (take line.count line.bytes) }
 {
-    let count = line.count;
     let mut at = address;
-    let mut j: usize = 0;
-    while j < count {
-        mem[at as usize] = line.bytes[j];
-        at = std::num::wrapping_add_u16(at, 1);
-        j += 1;
+    for byte in &line.bytes[..line.count] {
+        mem[at as usize] = *byte;
+        at = at.wrapping_add(1);
     }
 }

@@ -1,5 +1,6 @@
 // Peek: the latch takes the displayed byte that the pointer stands at.
 ghost use Rattle.std.specs.Prelude.{◌≡◌};
+ghost use Rattle.effects.specs.Effect.{with_bus};
 ghost use Rattle.effects.specs.Machine.{machine};
 ghost use Rattle.sight.specs.Sight.{peek_of, position, peeked_of};
 ghost use Rattle.sight.specs.Ready.{Seeing};
@@ -8,38 +9,31 @@ use crate::door::sees;
 use crate::position::{Position, find};
 use crate::seen::layers;
 use state::panel::Panel;
-use state::registers::{Bus, Registers};
+use state::registers::Registers;
 
-fn look(panel: Panel, registers: Registers, mem: &[u8], rom: &[u8]) -> Bus
-    requires { Seeing panel registers.display mem.now rom.now }
-    ensures { result ≡ peek_of panel rom.now (machine registers mem.now) (position panel registers) }
+fn look(registers: &mut Registers, panel: Panel, memory: &[u8], rom: &[u8])
+    requires { Seeing panel registers.old.display memory.now rom.now }
+    ensures { registers.new ≡ with_bus registers.old (peek_of panel rom.now (machine registers.old memory.now) (position panel registers.old)) }
 {
     let display = registers.display;
-    let graphic = display.graphic;
-    let mut bus = registers.bus;
-    let position = find(panel, graphic, bus.pointer);
-    match position {
-        Position::At(row, column) => {
-            let seen = layers(panel, display, mem, rom, row, column);
-            bus.latch = seen.shown;
+    let bus = &mut registers.bus;
+    match find(panel, display.graphic, bus.pointer) {
+        Some(Position { row, column }) => {
+            bus.latch = layers(panel, display, memory, rom, row, column)
+                .unwrap()
+                .shown;
             bus.error = false;
-            bus
         }
-        Position::Nowhere => {
-            bus.error = true;
-            bus
-        }
+        None => bus.error = true,
     }
 }
 
 // A panel, registers or lengths that are not right leave the bus as it was.
-pub fn peek(panel: Panel, registers: Registers, mem: &[u8], rom: &[u8]) -> Bus
-    ensures { result ≡ peeked_of panel registers mem.now rom.now }
+#[tactic(auto, unfolding(crate::specs::Sight::peeked_of))]
+pub fn peek(registers: &mut Registers, panel: Panel, memory: &[u8], rom: &[u8])
+    ensures { registers.new ≡ with_bus registers.old (peeked_of panel registers.old memory.now rom.now) }
 {
-    let display = registers.display;
-    if sees(panel, display, mem, rom) {
-        return look(panel, registers, mem, rom);
+    if sees(panel, registers.display, memory, rom) {
+        look(registers, panel, memory, rom);
     }
-    let bus = registers.bus;
-    bus
 }

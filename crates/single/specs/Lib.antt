@@ -1,2 +1,3 @@
 pub mod Types
 pub mod Access
+pub mod Outcome

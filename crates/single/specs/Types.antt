@@ -2,4 +2,4 @@
 pub use Rattle.state.specs.declared.panel.Panel.{Panel}
 pub use Rattle.state.specs.declared.registers.Registers.{Registers}
 pub use Rattle.codes.specs.declared.command.Command.{Command}
-pub use Rattle.state.specs.declared.reply.Acted.{Acted}
+pub use Rattle.state.specs.Replies.{Acted}

@@ -5,3 +5,4 @@ pub mod Sizes
 pub mod Tables
 pub mod Valid
 pub mod Widths
+pub mod RefusalNumbers

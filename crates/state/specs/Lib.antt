@@ -5,3 +5,6 @@ pub mod Halves
 pub mod Address
 pub mod Attribute
 pub mod Combination
+pub mod Codes
+pub mod Refusals
+pub mod Replies

@@ -7,7 +7,7 @@ ghost use Rattle.state.specs.Attribute.{look_of, shown_as, shades_of, shaded_rou
 use ground::bytes::full;
 
 // How a glyph row is shown.
-#[derive(Clone, Copy)]
+#[derive(Clone, Copy, Debug, PartialEq, Eq)]
 pub enum Manner {
     Normal,
     Reverse,
@@ -15,7 +15,7 @@ pub enum Manner {
 }
 
 // What the table has for an attribute code.
-#[derive(Clone, Copy)]
+#[derive(Clone, Copy, Debug, PartialEq, Eq)]
 pub struct Look {
     pub shown: Manner,
     pub blinks: bool,
@@ -115,9 +115,9 @@ pub fn shades(width: usize, normal: bool) -> [u8; 32]
 {
     let table = looks();
     let mut made = [0u8; 32];
-    for n in 0..32 {
+    for (n, shade) in made.iter_mut().enumerate() {
         let look = table[n % 16];
-        made[n] = look_shows(look, width, normal, all_or_none(width, n < 16));
+        *shade = look_shows(look, width, normal, all_or_none(width, n < 16));
     }
     made
 }
@@ -130,12 +130,12 @@ pub fn shade(width: usize, mem: &[u8], start: u16, table: &[u8], cells: &mut [u8
     if (mem.len() == 65536) & (table.len() == 32) {
         let all = full(width);
         let mut at = start;
-        for j in 0..cells.len() {
+        for cell in cells.iter_mut() {
             let code = (mem[at as usize] % 16) as usize;
-            let dots = cells[j];
-            let others = std::num::wrapping_sub_u8(all, dots);
-            cells[j] = (dots & table[code]) | (others & table[code + 16]);
-            at = std::num::wrapping_add_u16(at, 1);
+            let dots = *cell;
+            let others = all.wrapping_sub(dots);
+            *cell = (dots & table[code]) | (others & table[code + 16]);
+            at = at.wrapping_add(1);
         }
     }
 }

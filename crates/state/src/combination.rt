@@ -9,12 +9,7 @@ use ground::bytes::low;
 pub fn is_attribute(combination: Combination) -> bool
     ensures { result ≡ is_attribute combination }
 {
-    match combination {
-        Combination::Or => false,
-        Combination::Exor => false,
-        Combination::And => false,
-        Combination::Attribute => true,
-    }
+    combination == Combination::Attribute
 }
 
 // What text and graphic show together.
@@ -56,10 +51,10 @@ pub fn mix_round(
 {
     if mem.len() == 65536 {
         let mut at = start;
-        for j in 0..cells.len() {
+        for cell in cells.iter_mut() {
             let graphic = low(width, mem[at as usize]);
-            cells[j] = mix(text_on, graphic_on, combination, cells[j], graphic);
-            at = std::num::wrapping_add_u16(at, 1);
+            *cell = mix(text_on, graphic_on, combination, *cell, graphic);
+            at = at.wrapping_add(1);
         }
     }
 }

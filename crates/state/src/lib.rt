@@ -4,5 +4,6 @@
 pub mod attribute;
 pub mod combination;
 pub mod panel;
+pub mod refusal;
 pub mod registers;
 pub mod reply;

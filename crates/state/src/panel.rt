@@ -4,8 +4,9 @@ ghost use Rattle.state.specs.State.{lines_fit, valid_panel};
 ghost use Rattle.state.specs.Halves.{cursor_y};
 ghost use Rattle.state.specs.Sizes.{row_size, frame_size, cell_count, valid_size};
 
+// No ghost facts: a panel that is not valid is an input too, refused as 1, so inner functions say `valid_panel`.
 // C columns, L character lines, cells of w dots; dual where it is scanned in two halves.
-#[derive(Clone, Copy)]
+#[derive(Clone, Copy, Debug, PartialEq, Eq)]
 pub struct Panel {
     pub columns: usize,
     pub lines: usize,
@@ -28,6 +29,7 @@ impl Panel {
         ensures { result ≡ valid_size self (row_size self) }
     {
         if self.valid() {
+            // no `div_ceil`: as the definition `row_bytes` has it
             (self.columns * self.width + 7) / 8
         } else {
             0

@@ -1,16 +1,17 @@
 // The registers, in two groups: what decides the picture, and what decides how the next access is taken.
 ghost use Rattle.std.specs.Prelude.{◌≡◌, true};
 ghost use Rattle.state.specs.Address.{address_of};
+ghost use Rattle.state.specs.Codes.{combination_byte, auto_byte};
 ghost use Rattle.state.specs.State.{valid_display, valid_bus, valid_registers, reset_registers};
 
 // The home and the area of text or of graphic.
-#[derive(Clone, Copy)]
+#[derive(Clone, Copy, Debug, PartialEq, Eq)]
 pub struct Plane {
     pub home: u16,
     pub area: u8,
 }
 
-#[derive(Clone, Copy)]
+#[derive(Clone, Copy, Debug, PartialEq, Eq)]
 pub struct Cursor {
     pub x: u8,
     pub y: u8,
@@ -18,7 +19,7 @@ pub struct Cursor {
 }
 
 // The four display bits.
-#[derive(Clone, Copy)]
+#[derive(Clone, Copy, Debug, PartialEq, Eq)]
 pub struct DisplayBits {
     pub graphic: bool,
     pub text: bool,
@@ -26,7 +27,7 @@ pub struct DisplayBits {
     pub blink: bool,
 }
 
-#[derive(Clone, Copy)]
+#[derive(Clone, Copy, Debug, PartialEq, Eq)]
 pub enum Combination {
     Or,
     Exor,
@@ -35,7 +36,7 @@ pub enum Combination {
 }
 
 // All that decides what the panel shows. The phase is true where it is normal, false where it is off.
-#[derive(Clone, Copy)]
+#[derive(Clone, Copy, Debug, PartialEq, Eq)]
 pub struct Display {
     pub text: Plane,
     pub graphic: Plane,
@@ -47,7 +48,7 @@ pub struct Display {
     pub phase: bool,
 }
 
-#[derive(Clone, Copy)]
+#[derive(Clone, Copy, Debug, PartialEq, Eq)]
 pub enum Auto {
     Off,
     Write,
@@ -55,7 +56,7 @@ pub enum Auto {
 }
 
 // The last data written, 0 to 2 of them: one alone stands in newest, and a place that is not used holds 0.
-#[derive(Clone, Copy)]
+#[derive(Clone, Copy, Debug, PartialEq, Eq)]
 pub struct Pending {
     pub count: u8,
     pub older: u8,
@@ -63,7 +64,7 @@ pub struct Pending {
 }
 
 // All that decides how the next access is taken. `auto` comes first and makes it ten bytes: one of eight is carried about as a single number.
-#[derive(Clone, Copy)]
+#[derive(Clone, Copy, Debug, PartialEq, Eq)]
 pub struct Bus {
     pub auto: Auto,
     pub pointer: u16,
@@ -72,14 +73,14 @@ pub struct Bus {
     pub error: bool,
 }
 
-#[derive(Clone, Copy)]
+#[derive(Clone, Copy, Debug, PartialEq, Eq)]
 pub struct Registers {
     pub display: Display,
     pub bus: Bus,
 }
 
 // What the two data of a command set.
-#[derive(Clone, Copy)]
+#[derive(Clone, Copy, Debug, PartialEq, Eq)]
 pub enum Target {
     Cursor,
     Offset,
@@ -91,11 +92,36 @@ pub enum Target {
 }
 
 // How the pointer moves after a store or a load.
-#[derive(Clone, Copy)]
+#[derive(Clone, Copy, Debug, PartialEq, Eq)]
 pub enum Move {
     Up,
     Down,
     Stay,
+}
+
+impl From<Combination> for u8 {
+    ghost from_gives = { λ combination byte. byte ≡ combination_byte combination };
+
+    fn from(combination: Combination) -> u8 {
+        match combination {
+            Combination::Or => 0,
+            Combination::Exor => 1,
+            Combination::And => 2,
+            Combination::Attribute => 3,
+        }
+    }
+}
+
+impl From<Auto> for u8 {
+    ghost from_gives = { λ auto byte. byte ≡ auto_byte auto };
+
+    fn from(auto: Auto) -> u8 {
+        match auto {
+            Auto::Off => 0,
+            Auto::Write => 1,
+            Auto::Read => 2,
+        }
+    }
 }
 
 impl Plane {
@@ -105,8 +131,7 @@ impl Plane {
     {
         let down = ((row % 65536) * (self.area as usize) % 65536) as u16;
         let across = (column % 65536) as u16;
-        let start = std::num::wrapping_add_u16(self.home, down);
-        std::num::wrapping_add_u16(start, across)
+        self.home.wrapping_add(down).wrapping_add(across)
     }
 }
 

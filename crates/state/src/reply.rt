@@ -1,18 +1,15 @@
 // What is returned.
-use super::registers::Registers;
+ghost use Rattle.std.specs.Prelude.{◌≡◌};
+ghost use Rattle.state.specs.Replies.{reply};
 
-// Acceptance, 0 with place 0, or a refusal's number and place.
-#[derive(Clone, Copy)]
-pub struct Reply {
-    pub number: u8,
-    pub place: usize,
-}
+use super::refusal::Refusal;
 
-// What a single access returns: a number and place, the registers after, and the byte read or 0.
-#[derive(Clone, Copy)]
-pub struct Acted {
-    pub registers: Registers,
-    pub place: usize,
-    pub number: u8,
-    pub answer: u8,
+/// The number that C and the programs give for an answer: 0 where nothing was refused, else the refusal's, 1 to 19.
+pub fn number(answer: Result<(), Refusal>) -> u8
+    ensures { result ≡ (reply answer).number }
+{
+    match answer {
+        Ok(()) => 0,
+        Err(refusal) => refusal.number(),
+    }
 }

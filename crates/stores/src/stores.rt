@@ -6,9 +6,10 @@ ghost use Rattle.sight.specs.Sight.{position};
 ghost use Rattle.stores.specs.Stores.{copy_stores, command_stores, code_stores, stores_asked};
 
 use codes::command::Command;
-use codes::decode::{Decoded, decode};
+use codes::decode::decode;
+use codes::pair::Kind;
 use effects::effect::is_write;
-use sight::position::{Position, locate};
+use sight::position::locate;
 use state::combination::is_attribute;
 use state::panel::Panel;
 use state::registers::Registers;
@@ -19,19 +20,13 @@ fn copied(panel: Panel, registers: Registers) -> usize
     ensures { result ≡ copy_stores panel registers.display (position panel registers) }
 {
     let display = registers.display;
-    let graphic = display.graphic;
-    let combination = display.combination;
-    let bus = registers.bus;
-    let position = locate(panel, graphic, bus.pointer);
-    match position {
-        Position::At(_, column) => {
-            if panel.dual | is_attribute(combination) {
-                return 0;
-            }
-            panel.columns - column
-        }
-        Position::Nowhere => 0,
+    let Some(position) = locate(panel, display.graphic, registers.bus.pointer) else {
+        return 0;
+    };
+    if panel.dual | is_attribute(display.combination) {
+        return 0;
     }
+    panel.columns - position.column
 }
 
 // A command's.
@@ -40,16 +35,10 @@ fn by_command(panel: Panel, registers: Registers, command: Command) -> usize
     ensures { result ≡ command_stores panel registers command }
 {
     match command {
-        Command::Set(_) => 0,
-        Command::Mode(_, _) => 0,
-        Command::DisplayMode(_) => 0,
-        Command::Height(_) => 0,
-        Command::Run(_) => 0,
         Command::Store(_) => 1,
-        Command::Load(_) => 0,
-        Command::Peek => 0,
         Command::Copy => copied(panel, registers),
         Command::Bit(_, _) => 1,
+        _ => 0,
     }
 }
 
@@ -58,25 +47,22 @@ fn by_code(panel: Panel, registers: Registers, code: u8) -> usize
     requires { valid_panel panel ≡ true }
     ensures { result ≡ code_stores panel registers (decode_of code) }
 {
-    let Decoded::Defined(command) = decode(code) else {
+    let Some(command) = decode(code) else {
         return 0;
     };
     by_command(panel, registers, command)
 }
 
-// Any pair's; a panel that is not valid stores nothing.
+/// How many bytes a pair of any kind stores if it is accepted, 0 to 80; a panel that is not valid stores nothing.
 pub fn stores(panel: Panel, registers: Registers, kind: u8, byte: u8) -> usize
     ensures { result ≡ stores_asked panel registers (record { kind = kind; byte = byte }) }
 {
-    if panel.valid() {
-        let bus = registers.bus;
-        let auto = bus.auto;
-        match kind {
-            0 => { if is_write(auto) { 1 } else { 0 } }
-            1 => by_code(panel, registers, byte),
-            _ => 0,
-        }
-    } else {
-        0
+    if !panel.valid() {
+        return 0;
+    }
+    match Kind::try_from(kind) {
+        Ok(Kind::Data) => { if is_write(registers.bus.auto) { 1 } else { 0 } }
+        Ok(Kind::Command) => by_code(panel, registers, byte),
+        _ => 0,
     }
 }

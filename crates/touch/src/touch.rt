@@ -4,7 +4,6 @@ ghost use Rattle.touch.specs.Touch.{plane_row};
 ghost use Rattle.touch.specs.Marked.{set_where, marked_of, marks_of};
 ghost use Rattle.touch.specs.Ready.{Marking, span_of, reaches_of, code_meets, line_meets, glyph_meets, planes_meet, near_bank, kept_flag};
 
-use ground::bytes::lesser;
 use state::combination::is_attribute;
 use state::panel::Panel;
 use state::registers::{Combination, Display, Plane};
@@ -17,7 +16,7 @@ fn span(columns: usize, n: usize) -> usize
     if n == 0 {
         return 0;
     }
-    lesser(n, 65536) + columns - 1
+    n.min(65536) + columns - 1
 }
 
 // A row of the panel that begins so far from an address on.
@@ -26,8 +25,8 @@ fn reaches(plane: Plane, row: usize, low: u16, span: u16) -> bool
     ensures { result ≡ reaches_of plane row low span }
 {
     let down = (row as u16) * (plane.area as u16);
-    let start = std::num::wrapping_add_u16(plane.home, down);
-    let from = std::num::wrapping_sub_u16(start, low);
+    let start = plane.home.wrapping_add(down);
+    let from = start.wrapping_sub(low);
     from < span
 }
 
@@ -37,37 +36,35 @@ fn hits(display: Display, code: u8, v: usize, at: u16, n: usize) -> bool
     ensures { result ≡ code_meets display code v at n }
 {
     let from = (2048 * (display.offset as usize) + 8 * (code as usize) + v) as u16;
-    let ahead = std::num::wrapping_sub_u16(from, at) as usize;
+    let ahead = from.wrapping_sub(at) as usize;
     !(!display.external & (code < 128)) & (ahead < n)
 }
 
+// No struct of these, here and below: `Marking` says once what is known, and each function reads two or three.
 // One of the codes of a row's line.
-fn search(panel: Panel, display: Display, mem: &[u8], row: usize, at: u16, n: usize) -> bool
-    requires { Marking panel display mem.now }
-    ensures { result ≡ line_meets panel display mem.now row at n }
+fn search(panel: Panel, display: Display, memory: &[u8], row: usize, at: u16, n: usize) -> bool
+    requires { Marking panel display memory.now }
+    ensures { result ≡ line_meets panel display memory.now row at n }
 {
-    let columns = panel.columns;
     let v = row % 8;
     let start = display.text.address(row / 8, 0);
-    let mut column: usize = 0;
-    while column < columns {
-        let from = std::num::wrapping_add_u16(start, column as u16) as usize;
-        if hits(display, mem[from], v, at, n) {
+    for column in 0..panel.columns {
+        let from = start.wrapping_add(column as u16) as usize;
+        if hits(display, memory[from], v, at, n) {
             return true;
         }
-        column += 1;
     }
     false
 }
 
 // A row's codes are read only where one of the addresses has the row's last three bits.
-fn glyphs(panel: Panel, display: Display, mem: &[u8], row: usize, at: u16, n: usize) -> bool
-    requires { Marking panel display mem.now }
-    ensures { result ≡ glyph_meets panel display mem.now row at n }
+fn glyphs(panel: Panel, display: Display, memory: &[u8], row: usize, at: u16, n: usize) -> bool
+    requires { Marking panel display memory.now }
+    ensures { result ≡ glyph_meets panel display memory.now row at n }
 {
     let next = (row % 8 + 8 - (at as usize) % 8) % 8;
     if next < n {
-        return search(panel, display, mem, row, at, n);
+        return search(panel, display, memory, row, at, n);
     }
     false
 }
@@ -78,8 +75,8 @@ fn near(display: Display, at: u16, n: usize) -> bool
     ensures { result ≡ near_bank display at n }
 {
     let bank = (2048 * (display.offset as usize)) as u16;
-    let past = std::num::wrapping_sub_u16(at, bank) as usize;
-    let ahead = std::num::wrapping_sub_u16(bank, at) as usize;
+    let past = at.wrapping_sub(bank) as usize;
+    let ahead = bank.wrapping_sub(at) as usize;
     (past < 2048) | (ahead < n)
 }
 
@@ -93,6 +90,7 @@ fn plane_row(combination: Combination, row: usize) -> usize
     row
 }
 
+// a flag is a byte, 1 or 0: C lends the list, to `t6963c_follow` and `t6963c_refresh`
 fn kept(set: bool, flag: u8) -> u8
     ensures { result ≡ kept_flag set flag }
 {
@@ -111,14 +109,14 @@ fn mark_planes(panel: Panel, display: Display, at: u16, n: usize, altered: bool,
 {
     let columns = panel.columns;
     let combination = display.combination;
-    let low = std::num::wrapping_sub_u16(at, (columns - 1) as u16);
+    let low = at.wrapping_sub((columns - 1) as u16);
     let places = span(columns, n);
     let every = altered | (65535 < places);
     let within = (places % 65536) as u16;
-    for row in 0..flags.len() {
+    for (row, flag) in flags.iter_mut().enumerate() {
         let text = reaches(display.text, row / 8, low, within);
         let graphic = reaches(display.graphic, plane_row(combination, row), low, within);
-        flags[row] = kept(every | (text | graphic), flags[row]);
+        *flag = kept(every | (text | graphic), *flag);
     }
 }
 
@@ -126,29 +124,29 @@ fn mark_planes(panel: Panel, display: Display, at: u16, n: usize, altered: bool,
 fn glyph_flag(
     panel: Panel,
     display: Display,
-    mem: &[u8],
+    memory: &[u8],
     row: usize,
     at: u16,
     n: usize,
     flag: u8,
 ) -> u8
-    requires { Marking panel display mem.now }
-    ensures { result ≡ kept_flag (glyph_meets panel display mem.now row at n) flag }
+    requires { Marking panel display memory.now }
+    ensures { result ≡ kept_flag (glyph_meets panel display memory.now row at n) flag }
 {
     if flag == 1 {
         return 1;
     }
-    kept(glyphs(panel, display, mem, row, at, n), flag)
+    kept(glyphs(panel, display, memory, row, at, n), flag)
 }
 
 // By glyph bytes.
-fn mark_glyphs(panel: Panel, display: Display, mem: &[u8], at: u16, n: usize, flags: &mut [u8])
-    requires marking { Marking panel display mem.now }
+fn mark_glyphs(panel: Panel, display: Display, memory: &[u8], at: u16, n: usize, flags: &mut [u8])
+    requires marking { Marking panel display memory.now }
     requires flags_len { length flags.old ≡ 8 * panel.lines }
-    ensures { flags.new ≡ set_where panel (λ r. glyph_meets panel display mem.now r at n) flags.old }
+    ensures { flags.new ≡ set_where panel (λ r. glyph_meets panel display memory.now r at n) flags.old }
 {
-    for row in 0..flags.len() {
-        flags[row] = glyph_flag(panel, display, mem, row, at, n, flags[row]);
+    for (row, flag) in flags.iter_mut().enumerate() {
+        *flag = glyph_flag(panel, display, memory, row, at, n, *flag);
     }
 }
 
@@ -156,38 +154,39 @@ fn mark_glyphs(panel: Panel, display: Display, mem: &[u8], at: u16, n: usize, fl
 fn mark_rows(
     panel: Panel,
     display: Display,
-    mem: &[u8],
+    memory: &[u8],
     at: u16,
     n: usize,
     altered: bool,
     flags: &mut [u8],
 )
-    requires marking { Marking panel display mem.now }
+    requires marking { Marking panel display memory.now }
     requires flags_len { length flags.old ≡ 8 * panel.lines }
-    ensures { flags.new ≡ marked_of panel display mem.now at n altered flags.old }
+    ensures { flags.new ≡ marked_of panel display memory.now at n altered flags.old }
 {
     mark_planes(panel, display, at, n, altered, flags);
     if near(display, at, n) {
-        mark_glyphs(panel, display, mem, at, n, flags);
+        mark_glyphs(panel, display, memory, at, n, flags);
     }
 }
 
-// Asked of anything. A pair that neither alters nor stores marks nothing.
+/// Sets the flags, one of 8 · lines for each dot row, of the rows that read one of `n` addresses from `at` on, or of all where something
+/// `altered`. Asked of anything: what is not valid or has another length, and a pair that neither alters nor stores, marks nothing.
 pub fn mark(
     panel: Panel,
     display: Display,
-    mem: &[u8],
+    memory: &[u8],
     at: u16,
     n: usize,
     altered: bool,
     flags: &mut [u8],
 )
-    ensures { flags.new ≡ marks_of panel display mem.now at n altered flags.old }
+    ensures { flags.new ≡ marks_of panel display memory.now at n altered flags.old }
 {
     if panel.valid() {
-        let fits = display.valid() & (mem.len() == 65536) & (flags.len() == 8 * panel.lines);
+        let fits = display.valid() & (memory.len() == 65536) & (flags.len() == 8 * panel.lines);
         if fits & (altered | (0 < n)) {
-            mark_rows(panel, display, mem, at, n, altered, flags);
+            mark_rows(panel, display, memory, at, n, altered, flags);
         }
     }
 }

@@ -1,6 +1,4 @@
 -- The declared types that this crate's definitions are about, under one name.
 pub use Rattle.state.specs.declared.registers.Bus.{Bus}
 pub use Rattle.state.specs.declared.registers.Registers.{Registers}
-pub use Rattle.state.specs.declared.reply.Acted.{Acted}
-pub use Rattle.turns.specs.declared.turn.Turned.{Turned}
 pub use Rattle.turns.specs.declared.note.Noted.{Noted}

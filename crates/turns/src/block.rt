@@ -94,6 +94,7 @@ fn store_data(mem: &mut [u8], start: u16, log: &[u8], from: usize, total: usize)
     let mut i = from;
     let mut left = end - from;
     let mut at = start as usize;
+    // a `while`: a stretch ends where the memory does, so that no step is fixed
     while 0 < left {
         let n = lesser(left, 65536 - at);
         store_stretch(mem, at, log, i, n);

@@ -3,4 +3,3 @@
 
 pub mod block;
 pub mod note;
-pub mod turn;

@@ -3,7 +3,7 @@ ghost use Rattle.std.specs.Prelude.{◌≡◌};
 ghost use Rattle.turns.specs.Noted.{noted_all, noted_of};
 
 // What a pair's number comes to: 0 where the run goes on, else the number it stops by; the pairs listed so far.
-#[derive(Clone, Copy)]
+#[derive(Clone, Copy, Debug, PartialEq, Eq)]
 pub struct Noted {
     pub listed: usize,
     pub number: u8,

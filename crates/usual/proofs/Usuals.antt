@@ -8,7 +8,7 @@ use lib.ListN.{length, get_or, set}
 use borrow.Author.Tests.{eqb-true, ltb-true}
 use Rattle.ground.proofs.Tests.{both_left, both_right}
 use Rattle.codes.specs.Command.{is_off}
-use Rattle.effects.specs.Effect.{with_pointer, with_latch, moved_of, is_read, bus_status}
+use Rattle.effects.specs.Effect.{with_pointer, moved_of, is_read, bus_status}
 use Rattle.effects.specs.Machine.{machine}
 use Rattle.sight.specs.Steps.{answered, data_read_of, step_of}
 use Rattle.usual.specs.Types.{Auto, Off, Write, Read, Bus, Up}
@@ -68,17 +68,17 @@ module _ {phase : Bool} {b : Bus} {mem a : List ℕ} {n kind : ℕ} where
       }
 
   pub asks-fetch : {read : Bool} → read ≡ is_read b.auto → ((eqb kind 2 && ltb n (length a)) && read) ≡ true
-      → {next : Bus} → next ≡ with_pointer (with_latch b (get_or mem b.pointer 0)) (moved_of Up b.pointer)
-      → Asks phase b mem a n kind (record { bus = with_pointer b next.pointer; given = n + 1; done = true }) (set a n next.latch)
-  asks-fetch {read} o t {next} h =
+      → {v next : ℕ} → v ≡ get_or mem b.pointer 0 → next ≡ moved_of Up b.pointer
+      → Asks phase b mem a n kind (record { bus = with_pointer b next; given = n + 1; done = true }) (set a n v)
+  asks-fetch {read} o t {v} {next} h m =
       let u = both_left (eqb kind 2 && ltb n (length a)) read t in
       record {
         acts = λ e p rom d byte f.
             record {
-              byte = next.latch;
+              byte = v;
               steps = ap (λ (k : ℕ). step_of p rom (machine (record { display = d; bus = b }) mem) (record { kind = k; byte = byte })) (eqb-true kind 2 (both_left (eqb kind 2) (ltb n (length a)) u))
                   ∙ ap (λ (x : Auto). data_read_of x (machine (record { display = d; bus = b }) mem)) (read_only b.auto (sym o ∙ both_right (eqb kind 2 && ltb n (length a)) read t))
-                  ∙ (λ i. answered (machine (record { display = d; bus = with_pointer b (sym h i).pointer }) mem) (sym h i).latch);
+                  ∙ (λ i. answered (machine (record { display = d; bus = with_pointer b (sym m i) }) mem) (sym h i));
               room = both_right (eqb kind 2) (ltb n (length a)) u;
               holds = refl;
               counts = refl;

@@ -11,8 +11,6 @@ pub use Rattle.state.specs.declared.registers.Move.{Move}
 pub use Rattle.state.specs.declared.registers.Move.TheVariants.{Up, Down, Stay}
 pub use Rattle.codes.specs.declared.command.Command.{Command}
 pub use Rattle.codes.specs.declared.command.Command.TheVariants.{Set, Mode, DisplayMode, Height, Run, Store, Load, Bit}
-pub use Rattle.codes.specs.declared.decode.Decoded.{Decoded}
-pub use Rattle.codes.specs.declared.decode.Decoded.TheVariants.{Defined, Undefined}
+pub use Rattle.codes.specs.Decoded.{Decoded, Defined, Undefined}
 pub use Rattle.usual.specs.declared.tell.Told.{Told}
-pub use Rattle.usual.specs.declared.draw.Drawn.{Drawn}
-pub use Rattle.usual.specs.declared.ask.Asked.{Asked}
+pub use Rattle.usual.specs.Done.{Drawn, Asked}

@@ -1,55 +1,56 @@
 // Reads.
+ghost use Rattle.usual.specs.Done.{asked};
 ghost use Rattle.usual.specs.Ready.{Asks};
 
 use codes::command::is_off;
-use effects::effect::{bus_status, is_read};
-use effects::store::fetch;
+use effects::effect::{bus_status, is_read, moved};
+use effects::store::byte_there;
 use state::registers::{Bus, Move};
 
-// A read done, or left: the bus then, the answers so far.
-#[derive(Clone, Copy)]
+/// A read done: the bus then, the answers so far.
+#[derive(Clone, Copy, Debug, PartialEq, Eq)]
 pub struct Asked {
     pub bus: Bus,
     pub given: usize,
-    pub done: bool,
 }
 
-// Status or data, where there is room for the answer.
-pub fn ask(phase: bool, bus: Bus, mem: &[u8], answers: &mut [u8], given: usize, kind: u8) -> Asked
-    ensures { Asks phase bus mem.now answers.old given kind result answers.new }
+/// Status (kind 3) or data (kind 2), where there is room for the answer behind the `given` first. Any other pair is left, and gives none.
+pub fn ask(
+    phase: bool,
+    bus: Bus,
+    mem: &[u8],
+    answers: &mut [u8],
+    given: usize,
+    kind: u8,
+) -> Option<Asked>
+    ensures { Asks phase bus mem.now answers.old given kind (asked bus given result) answers.new }
 {
     let auto = bus.auto;
     let room = given < answers.len();
     if (kind == 3) & room {
         answers[given] = bus_status(bus, phase);
-        return Asked {
+        return Some(Asked {
             bus,
             given: given + 1,
-            done: true,
-        };
+        });
     }
     if (kind == 2) & room & is_off(auto) {
         answers[given] = bus.latch;
-        return Asked {
+        return Some(Asked {
             bus,
             given: given + 1,
-            done: true,
-        };
+        });
     }
     if (kind == 2) & room & is_read(auto) {
-        let mut next = bus;
-        let fetched = fetch(bus, mem, Move::Up);
-        answers[given] = fetched.latch;
-        next.pointer = fetched.pointer;
-        return Asked {
+        answers[given] = byte_there(mem, bus.pointer);
+        let next = Bus {
+            pointer: moved(Move::Up, bus.pointer),
+            ..bus
+        };
+        return Some(Asked {
             bus: next,
             given: given + 1,
-            done: true,
-        };
+        });
     }
-    Asked {
-        bus,
-        given,
-        done: false,
-    }
+    None
 }

@@ -2,13 +2,12 @@
 ghost use Rattle.std.specs.Prelude.{◌≡◌, false};
 ghost use Rattle.usual.specs.Ready.{Tells};
 
-use effects::effect::with_auto;
 use effects::store::{change, fetch, put};
 use ground::bytes::word;
 use state::registers::{Auto, Bus, Move, Pending};
 
-// A command of the bus alone, done or left as it was.
-#[derive(Clone, Copy)]
+// A command of the bus alone, done or left as it was. An Option was tried: the run's single stores were half as slow again.
+#[derive(Clone, Copy, Debug, PartialEq, Eq)]
 pub struct Told {
     pub bus: Bus,
     pub done: bool,
@@ -20,6 +19,7 @@ fn left(bus: Bus) -> Told
     Told { bus, done: false }
 }
 
+// Codes once more beside `codes::decode`: a decoded command is an enum and goes through memory (docs/SPEED.md).
 // The commands that a drawing program sends most: pointer, auto, stores, loads and bits, where they are taken. Any other is left.
 pub fn tell(bus: Bus, mem: &mut [u8], quiet: bool, code: u8) -> Told
     ensures { Tells bus mem.old quiet code result mem.new }
@@ -44,14 +44,20 @@ pub fn tell(bus: Bus, mem: &mut [u8], quiet: bool, code: u8) -> Told
                     done: true,
                 }
             }
-            0xb0 => Told {
-                bus: with_auto(next, Auto::Write),
-                done: true,
-            },
-            0xb1 => Told {
-                bus: with_auto(next, Auto::Read),
-                done: true,
-            },
+            0xb0 => {
+                next.auto = Auto::Write;
+                Told {
+                    bus: next,
+                    done: true,
+                }
+            }
+            0xb1 => {
+                next.auto = Auto::Read;
+                Told {
+                    bus: next,
+                    done: true,
+                }
+            }
             0xc0 => {
                 if pending.count < 1 {
                     return left(bus);

@@ -20,7 +20,11 @@ use Rattle.flags.specs.Flags.{flags_after, Flagged, with_flags, flag_by, flag_st
 use Rattle.flags.proofs.Follows.{code-kept, flags-after-is}
 use Rattle.flags.proofs.Rights.{same-own}
 use Rattle.watch.specs.Types.{Panel, Display, Registers}
-use Rattle.watch.specs.Runs.{standing_flags, passed_of}
+use Rattle.watch.specs.Runs.{standing_flags}
+
+-- the pointer behind n data
+abbrev pub passed_of : Registers → ℕ → Registers
+passed_of r n = with_bus r (with_pointer r.bus ((r.bus.pointer + n) % 65536))
 
 -- where a run with flags stands, and its list of skipped pairs
 abbrev pub on_skips : Standing Flagged → List ℕ → ℕ → ℕ → Standing (Skipping Flagged)

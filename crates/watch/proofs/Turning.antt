@@ -1,18 +1,15 @@
 -- One pair of a run with flags, and the list of skipped pairs behind it.
-use Rattle.std.proofs.Common.{◌≡◌, ℕ, zero, suc, ◌+◌, ◌-◌, ◌*◌, ◌/◌, ◌<◌, ◌≤◌, Bool, true, false, cond, not, ◌&&◌, ◌||◌, eqb, ltb, leb, List, [], ◌∷◌, length, get_or, take, set, sym, refl, ap, ◌∙◌, subst, ⊎_elim, arith, ltb-true, le-ltb, lt-ltb, eq-eqb, ne_eqb, eqb-true, leb-false, leb-true}
+use Rattle.std.proofs.Common.{◌≡◌, ℕ, zero, suc, ◌+◌, ◌-◌, ◌*◌, ◌/◌, ◌<◌, ◌≤◌, Bool, true, false, cond, not, ◌&&◌, eqb, ltb, List, [], ◌∷◌, length, get_or, take, set, sym, refl, ap, ◌∙◌, subst, arith, ltb-true, le-ltb, lt-ltb, eq-eqb, ne_eqb, eqb-true}
 use native.Mathlib.Decide.{dec_lt}
 use lib.Dec.{eqb-suc-zero}
 use lib.Seq.{sets, length-sets}
-use borrow.Author.Tests.{eqb-false}
 use Rattle.ground.specs.Lists.{stored}
 use Rattle.ground.proofs.Lists.{build-length}
 use Rattle.ground.proofs.Stores.{stored-length}
-use Rattle.ground.proofs.Tests.{both, both_left, both_right, either}
-use Rattle.state.specs.State.{valid_panel}
-use Rattle.effects.specs.Machine.{Machine, machine, on_bus}
-use Rattle.effects.specs.Effect.{with_pointer, moved_of, is_write, status_of}
-use Rattle.controller.specs.Types.{Auto, Off, Write, Read, Up}
-use Rattle.controller.specs.Access.{Pair, Step, done, answered, refused, data_read_of, step_of}
+use Rattle.ground.proofs.Tests.{both, both_right}
+use Rattle.effects.specs.Machine.{Machine, machine}
+use Rattle.effects.specs.Effect.{is_write}
+use Rattle.controller.specs.Access.{Pair, Step, done, answered, refused, step_of}
 use Rattle.controller.specs.Run.{Standing, Turn, went, halted, turn_of, run_from, pairs_of}
 use Rattle.controller.specs.Skip.{Skipping, passed_by, skip_by, skip_step}
 use Rattle.controller.specs.Ready.{NotedAll, noted_all, noted_of, pairs_from, data_of}
@@ -20,116 +17,37 @@ use Rattle.controller.proofs.Blocks.{pair_at, pairs-behind, write-only}
 use Rattle.controller.proofs.Splits.{projected}
 use Rattle.controller.proofs.Laws.{Sounds, sounds-valid, step-sound}
 use Rattle.controller.proofs.Goings.{Leaves, Going, going, going-ends, going-halts, going-went}
-use Rattle.controller.proofs.Turns.{Answering, declines, Acting, acts, refuses, step-answering, step-acting, step-number}
-use Rattle.watch.specs.Types.{Panel, Display, Registers, Acted, RanOn, FlagTurn, Quick, Noted}
+use Rattle.controller.proofs.Turns.{step-number}
+use Rattle.watch.specs.Types.{Panel, Display, Registers, RanOn, Taken, Noted}
 use Rattle.flags.specs.Flags.{same_display, flags_after, Flagged, with_flags, flag_by, flag_step}
-use Rattle.flags.specs.Follow.{followed, followed_by, followed_of, follow_of}
+use Rattle.flags.specs.Outcome.{flag_entered_of}
 use Rattle.watch.specs.Watched.{ran_flags, ran_flags_of}
 use Rattle.touch.specs.Marked.{marked_of}
 use Rattle.flags.specs.Ready.{Following}
 use Rattle.flags.proofs.Follows.{marked-is, flags-after-is}
 use Rattle.flags.proofs.Rights.{same-own}
 use Rattle.touch.proofs.Marks.{marks-none}
-use Rattle.watch.proofs.Stretches.{on_skips, flag-block, marked-long}
-use Rattle.watch.specs.Runs.{Quickly, Stretched, passed_of, TurnedFlags, standing_flags, turned_flags, turned_flags_of, unread_of}
+use Rattle.watch.proofs.Stretches.{passed_of, on_skips, flag-block, marked-long}
+use Rattle.watch.specs.Runs.{Quickly, Stretched, standing_flags}
 
 -- what is known to be valid is followed
 opened : (p : Panel) (r : Registers) (mem rom flags : List ℕ) (q : Pair) → Following p r mem rom flags
-    → follow_of p r mem rom q flags ≡ followed_of r mem flags (flag_step p rom (with_flags (machine r mem) flags) q)
-unfolding follow_of
+    → flag_entered_of p r mem rom q flags ≡ flag_step p rom (with_flags (machine r mem) flags) q
+unfolding flag_entered_of
 opened p r mem rom flags q k =
     λ i.
     cond (k.panel i && k.state i)
-    (cond (k.lent i && eq-eqb (length flags) (8 * p.lines) k.rows i) (followed_of r mem flags (flag_step p rom (with_flags (machine r mem) flags) q)) (followed_by 2 r 0 mem flags))
-    (followed_by 1 r 0 mem flags)
+    (cond (k.lent i && eq-eqb (length flags) (8 * p.lines) k.rows i) (flag_step p rom (with_flags (machine r mem) flags) q) (refused 2))
+    (refused 1)
 
--- one pair
-module _ (p : Panel) (r : Registers) (mem rom flags : List ℕ) (answers : List ℕ) (given k b : ℕ) where
-  abbrev here : Standing Flagged
-  here = standing_flags r mem flags answers given
+-- a number, 0 where the pair is taken, and where the run then stands
+pub record TurnedFlags : Type 0 where
+  pub number : ℕ
+  pub standing : Standing Flagged
 
-  abbrev pair : Pair
-  pair = record { kind = k; byte = b }
-
-  abbrev turn_by : Step Machine → Turn Flagged
-  turn_by o = turn_of here (flag_by p here.machine pair o)
-
-  -- a read without room
-  pub turn-unread : {n : ℕ} → n ≡ unread_of k r.bus.auto → ((eqb k 2 || eqb k 3) && leb (length answers) given) ≡ true
-      → turned_flags (record { registers = r; given = given; number = n }) mem flags answers ≡ turned_flags_of here (turn_by (step_of p rom (machine r mem) pair))
-  turn-unread {n} e h =
-      let l : length answers ≤ given = leb-true (length answers) given (both_right (eqb k 2 || eqb k 3) (leb (length answers) given) h) in
-      let full : ltb given (length answers) ≡ false = le-ltb given (length answers) l in
-      ap (λ (m : ℕ). turned_flags (record { registers = r; given = given; number = m }) mem flags answers) e
-      ∙ ⊎_elim (λ t. by_2 full k (eqb-true k 2 t)) (λ t. by-3 full k (eqb-true k 3 t)) (either (eqb k 2) (eqb k 3) (both_left (eqb k 2 || eqb k 3) (leb (length answers) given) h))
-    where
-      none : (F : Flagged) (x : ℕ) → ltb given (length answers) ≡ false → turned_flags_of here (halted 13) ≡ turned_flags_of here (turn_of here (answered F x))
-      none F x full = sym (ap (λ (t : Bool). turned_flags_of here (cond t (went (record { machine = F; answers = set answers given x; given = given + 1 })) (halted 13))) full)
-
-      data-read : ltb given (length answers) ≡ false → (a : Auto) → turned_flags_of here (halted (unread_of 2 a)) ≡ turned_flags_of here (turn_of here (flag_by p here.machine (record { kind = 2; byte = b }) (data_read_of a (machine r mem))))
-      data-read full Off = none (with_flags (machine r mem) (flags_after p (machine r mem) (record { kind = 2; byte = b }) (machine r mem) flags)) r.bus.latch full
-      data-read full Write = refl
-      data-read full Read =
-          let t : Machine = on_bus (machine r mem) (with_pointer r.bus (moved_of Up r.bus.pointer)) in
-          none (with_flags t (flags_after p (machine r mem) (record { kind = 2; byte = b }) t flags)) (get_or mem r.bus.pointer 0) full
-
-      by_2 : ltb given (length answers) ≡ false → (k : ℕ) → k ≡ 2 → turned_flags_of here (halted (unread_of k r.bus.auto)) ≡ turned_flags_of here (turn_of here (flag_by p here.machine (record { kind = k; byte = b }) (step_of p rom (machine r mem) (record { kind = k; byte = b }))))
-      by_2 full k z =
-          subst (λ (k : ℕ). turned_flags_of here (halted (unread_of k r.bus.auto)) ≡ turned_flags_of here (turn_of here (flag_by p here.machine (record { kind = k; byte = b }) (step_of p rom (machine r mem) (record { kind = k; byte = b }))))) (sym z) (data-read full r.bus.auto)
-
-      by-3 : ltb given (length answers) ≡ false → (k : ℕ) → k ≡ 3 → turned_flags_of here (halted (unread_of k r.bus.auto)) ≡ turned_flags_of here (turn_of here (flag_by p here.machine (record { kind = k; byte = b }) (step_of p rom (machine r mem) (record { kind = k; byte = b }))))
-      by-3 full k z =
-          subst (λ (k : ℕ). turned_flags_of here (halted (unread_of k r.bus.auto)) ≡ turned_flags_of here (turn_of here (flag_by p here.machine (record { kind = k; byte = b }) (step_of p rom (machine r mem) (record { kind = k; byte = b }))))) (sym z)
-          (none (with_flags (machine r mem) (flags_after p (machine r mem) (record { kind = 3; byte = b }) (machine r mem) flags)) (status_of r) full)
-
-  -- not without room, and a read
-  pub had-room : ((eqb k 2 || eqb k 3) && leb (length answers) given) ≡ false → (eqb k 2 || eqb k 3) ≡ true → given < length answers
-  had-room h e = leb-false (length answers) given (sym (ap (λ (t : Bool). t && leb (length answers) given) e) ∙ h)
-
-  module _ {x : Acted} {m f : List ℕ} (may : Following p r mem rom flags) (asked : followed x m f ≡ follow_of p r mem rom pair flags) where
-    w : followed x m f ≡ followed_of r mem flags (flag_step p rom here.machine pair)
-    w = asked ∙ opened p r mem rom flags pair may
-
-    -- a read with room, answered
-    pub turn-answers : (eqb k 2 || eqb k 3) ≡ true → ltb given (length answers) ≡ true → x.number ≡ 0
-        → turned_flags (record { registers = x.registers; given = given + 1; number = 0 }) m f (set answers given x.answer) ≡ turned_flags_of here (turn_by (step_of p rom (machine r mem) pair))
-    turn-answers h room z = go (step_of p rom (machine r mem) pair) (step-answering p rom (machine r mem) k b h) w
-      where
-        go : (o : Step Machine) → Answering (machine r mem) o → followed x m f ≡ followed_of r mem flags (flag_by p here.machine pair o)
-            → turned_flags (record { registers = x.registers; given = given + 1; number = 0 }) m f (set answers given x.answer) ≡ turned_flags_of here (turn_by o)
-        go (answered t c) a v =
-            (λ i. turned_flags (record { registers = (v i).acted.registers; given = given + 1; number = 0 }) (v i).memory (v i).flags (set answers given (v i).acted.answer))
-            ∙ sym (ap (λ (u : Bool). turned_flags_of here (cond u (went (record { machine = with_flags t (flags_after p (machine r mem) pair t flags); answers = set answers given c; given = given + 1 })) (halted 13))) room)
-        go (refused (suc n)) (declines many few) v =
-            absurd (let y : suc n ≡ 0 = sym (λ i. (v i).acted.number) ∙ z in omega (arith, y))
-        go (done _) a v = elim a [ ]
-        go (refused zero) a v = elim a [ ]
-
-    -- any other, or a refusal
-    pub turn-others : ((eqb k 2 || eqb k 3) && eqb x.number 0) ≡ false
-        → turned_flags (record { registers = x.registers; given = given; number = x.number }) m f answers ≡ turned_flags_of here (turn_by (step_of p rom (machine r mem) pair))
-    turn-others h = go (eqb k 2 || eqb k 3) refl h
-      where
-        go : (t : Bool) → (eqb k 2 || eqb k 3) ≡ t → (t && eqb x.number 0) ≡ false
-            → turned_flags (record { registers = x.registers; given = given; number = x.number }) m f answers ≡ turned_flags_of here (turn_by (step_of p rom (machine r mem) pair))
-        go true e n = read (step_of p rom (machine r mem) pair) (step-answering p rom (machine r mem) k b e) w (eqb-false x.number 0 n)
-          where
-            read : (o : Step Machine) → Answering (machine r mem) o → followed x m f ≡ followed_of r mem flags (flag_by p here.machine pair o) → (x.number ≡ 0 → ⊥)
-                → turned_flags (record { registers = x.registers; given = given; number = x.number }) m f answers ≡ turned_flags_of here (turn_by o)
-            read (answered t c) a v y = absurd (y (λ i. (v i).acted.number))
-            read (refused (suc n)) (declines many few) v y =
-                λ i. turned_flags (record { registers = (v i).acted.registers; given = given; number = (v i).acted.number }) (v i).memory (v i).flags answers
-            read (done _) a v y = elim a [ ]
-            read (refused zero) a v y = elim a [ ]
-        go false e n = act (step_of p rom (machine r mem) pair) (step-acting p rom (machine r mem) k b e) w
-          where
-            act : (o : Step Machine) → Acting o → followed x m f ≡ followed_of r mem flags (flag_by p here.machine pair o)
-                → turned_flags (record { registers = x.registers; given = given; number = x.number }) m f answers ≡ turned_flags_of here (turn_by o)
-            act (done t) acts v = λ i. turned_flags (record { registers = (v i).acted.registers; given = given; number = (v i).acted.number }) (v i).memory (v i).flags answers
-            act (refused (suc n)) (refuses many few) v =
-                λ i. turned_flags (record { registers = (v i).acted.registers; given = given; number = (v i).acted.number }) (v i).memory (v i).flags answers
-            act (answered _ _) x7 v = elim x7 [ ]
-            act (refused zero) x8 v = elim x8 [ ]
+abbrev pub turned_flags_of : Standing Flagged → Turn Flagged → TurnedFlags
+turned_flags_of s (went t) = record { number = 0; standing = t }
+turned_flags_of s (halted n) = record { number = n; standing = s }
 
 -- the larger machine's turn: what turn and note come to
 pub data Came (s : Standing (Skipping Flagged)) : Turn (Skipping Flagged) → TurnedFlags → NotedAll → Type 0 where
@@ -256,22 +174,28 @@ module _ {p : Panel} {rom log : List ℕ} {total : ℕ} {s₀ : Standing (Skippi
       ap (λ (o : RanOn). ran_flags o mem answers skips flags) e
       ∙ ap ran_flags_of (going-ends steps_on Sort (flag-sound p rom _) g.goes_on h)
 
-  pub may-follow : valid_panel p ≡ true → length rom ≡ 1024 → Following p r mem rom flags
-  may-follow v l =
+  pub may-follow : {s : Registers} {m f : List ℕ} → Following p s m rom f → Following p r mem rom flags
+  may-follow {s} {m} {f} b =
+      let v = b.panel in
+      let l : length rom ≡ 1024 = eqb-true (length rom) 1024 (both_right (eqb (length m) 65536) (eqb (length rom) 1024) b.lent) in
       let k = g.goes_on.sound in
       record { panel = v; state = sounds-valid k.sound; lent = both (eq-eqb (length mem) 65536 k.sound.memory) (eq-eqb (length rom) 1024 l); rows = k.long }
 
-  module _ (h : i < total) (l : 2 * total ≤ length log) {t : FlagTurn} {m f a : List ℕ} {x : Noted} {b : List ℕ}
-      (e : turned_flags t m f a ≡ turned_flags_of (standing_flags r mem flags answers given) (turn_of (standing_flags r mem flags answers given) (flag_step p rom (standing_flags r mem flags answers given).machine (pair_at log i))))
-      (d : noted_all x b ≡ noted_of true t.number i skips listed) where
-    comes : Came now_at (turn_of now_at (steps_on now_at.machine (pair_at log i))) (turned_flags t m f a) (noted_all x b)
-    comes =
-        let o = came now_at (flag_step p rom now_at.machine.machine (pair_at log i)) (flag-number p rom now_at.machine.machine (get_or log (2 * i) 0) (get_or log (2 * i + 1) 0)) in
-        subst (λ (y : NotedAll). Came now_at (turn_of now_at (steps_on now_at.machine (pair_at log i))) (turned_flags t m f a) y) (sym d)
-        (subst (λ (y : TurnedFlags). Came now_at (turn_of now_at (steps_on now_at.machine (pair_at log i))) y (noted_of true y.number i skips listed)) (sym e) o)
+  abbrev here : Standing Flagged
+  here = standing_flags r mem flags answers given
 
-    pub flagging-on : x.number ≡ 0 → Flagging p rom log total s₀ t.registers m f a t.given b x.listed (i + 1)
-    flagging-on z = go _ _ _ comes z refl
+  module _ (may : Following p r mem rom flags) (h : i < total) (l : 2 * total ≤ length log) {x : Noted} {b : List ℕ} where
+    comes : {t : Turn Flagged} → t ≡ turn_of here (flag_entered_of p r mem rom (pair_at log i) flags) → noted_all x b ≡ noted_of true (turned_flags_of here t).number i skips listed
+        → Came now_at (turn_of now_at (steps_on now_at.machine (pair_at log i))) (turned_flags_of here t) (noted_all x b)
+    comes {t} e d =
+        let o = came now_at (flag_step p rom now_at.machine.machine (pair_at log i)) (flag-number p rom now_at.machine.machine (get_or log (2 * i) 0) (get_or log (2 * i + 1) 0)) in
+        let w = e ∙ ap (turn_of here) (opened p r mem rom flags (pair_at log i) may) in
+        subst (λ (y : NotedAll). Came now_at (turn_of now_at (steps_on now_at.machine (pair_at log i))) (turned_flags_of here t) y) (sym d)
+        (subst (λ (y : Turn Flagged). Came now_at (turn_of now_at (steps_on now_at.machine (pair_at log i))) (turned_flags_of here y) (noted_of true (turned_flags_of here y).number i skips listed)) (sym w) o)
+
+    on : (t : Turn Flagged) → Came now_at (turn_of now_at (steps_on now_at.machine (pair_at log i))) (turned_flags_of here t) (noted_all x b) → x.number ≡ 0
+        → Flagging p rom log total s₀ (turned_flags_of here t).standing.machine.machine.registers (turned_flags_of here t).standing.machine.machine.memory (turned_flags_of here t).standing.machine.flags (turned_flags_of here t).standing.answers (turned_flags_of here t).standing.given b x.listed (i + 1)
+    on t c z = go _ _ _ c z refl
       where
         go : (o : Turn (Skipping Flagged)) (y : TurnedFlags) (u : NotedAll) → Came now_at o y u → u.noted.number ≡ 0
             → turn_of now_at (steps_on now_at.machine (pair_at log i)) ≡ o
@@ -280,43 +204,61 @@ module _ {p : Panel} {rom log : List ℕ} {total : ℕ} {s₀ : Standing (Skippi
         go (halted (suc n)) y u ends z w = absurd (let q : ⊥ = omega (arith, z) in q)
         go (halted zero) y u x6 z w = elim x6 [ ]
 
-    pub flagging-stops : (x.number ≡ 0 → ⊥)
-        → {y : RanOn} → y ≡ record { ran = record { number = x.number; place = i; taken = i; answers = t.given; registers = t.registers }; skipped = x.listed }
-        → ran_flags y m a b f ≡ ran_flags_of (run_from steps_on 0 (take total (pairs_of log)) s₀)
-    flagging-stops z e = ap (λ (o : RanOn). ran_flags o m a b f) e ∙ go _ _ _ comes z refl
-      where
-        go : (o : Turn (Skipping Flagged)) (y : TurnedFlags) (u : NotedAll) → Came now_at o y u → (u.noted.number ≡ 0 → ⊥)
-            → turn_of now_at (steps_on now_at.machine (pair_at log i)) ≡ o
-            → ran_flags (record { ran = record { number = u.noted.number; place = i; taken = i; answers = y.standing.given; registers = y.standing.machine.machine.registers }; skipped = u.noted.listed }) y.standing.machine.machine.memory y.standing.answers u.skips y.standing.machine.flags
-            ≡ ran_flags_of (run_from steps_on 0 (take total (pairs_of log)) s₀)
-        go (went _) y u takes z w = absurd (z refl)
-        go (halted (suc n)) y u ends z w = ap ran_flags_of (going-halts steps_on Sort (flag-sound p rom _) g.goes_on h l w)
-        go (halted zero) y u x6 z w = elim x6 [ ]
+    -- a refused pair left all as it was
+    module _ {n : ℕ} {m f a : List ℕ} (e : halted n ≡ turn_of here (flag_entered_of p r mem rom (pair_at log i) flags)) (same : (m ≡ mem) × ((f ≡ flags) × (a ≡ answers)))
+        {k : ℕ} (number : k ≡ n) (noted : noted_all x b ≡ noted_of true k i skips listed) where
+      d : noted_all x b ≡ noted_of true n i skips listed
+      d = noted ∙ ap (λ (y : ℕ). noted_of true y i skips listed) number
+
+      pub flagging-listed : x.number ≡ 0 → Flagging p rom log total s₀ r m f a given b x.listed (i + 1)
+      flagging-listed z =
+          subst (λ (y : List ℕ). Flagging p rom log total s₀ r y f a given b x.listed (i + 1)) (sym same.0)
+          (subst (λ (y : List ℕ). Flagging p rom log total s₀ r mem y a given b x.listed (i + 1)) (sym same.1.0)
+          (subst (λ (y : List ℕ). Flagging p rom log total s₀ r mem flags y given b x.listed (i + 1)) (sym same.1.1) (on (halted n) (comes e d) z)))
+
+      pub flagging-stops : (x.number ≡ 0 → ⊥)
+          → {y : RanOn} → y ≡ record { ran = record { number = x.number; place = i; taken = i; answers = given; registers = r }; skipped = x.listed }
+          → ran_flags y m a b f ≡ ran_flags_of (run_from steps_on 0 (take total (pairs_of log)) s₀)
+      flagging-stops z {y} q = (λ j. ran_flags (q j) (same.0 j) (same.1.1 j) b (same.1.0 j)) ∙ go _ _ _ (comes e d) z refl
+        where
+          go : (o : Turn (Skipping Flagged)) (y : TurnedFlags) (u : NotedAll) → Came now_at o y u → (u.noted.number ≡ 0 → ⊥)
+              → turn_of now_at (steps_on now_at.machine (pair_at log i)) ≡ o
+              → ran_flags (record { ran = record { number = u.noted.number; place = i; taken = i; answers = y.standing.given; registers = y.standing.machine.machine.registers }; skipped = u.noted.listed }) y.standing.machine.machine.memory y.standing.answers u.skips y.standing.machine.flags
+              ≡ ran_flags_of (run_from steps_on 0 (take total (pairs_of log)) s₀)
+          go (went _) y u takes z w = absurd (z refl)
+          go (halted (suc n)) y u ends z w = ap ran_flags_of (going-halts steps_on Sort (flag-sound p rom _) g.goes_on h l w)
+          go (halted zero) y u x6 z w = elim x6 [ ]
+
+  -- a pair taken
+  pub flagging-taken : Following p r mem rom flags → i < total → 2 * total ≤ length log → {t : Taken} {m f a : List ℕ}
+      → went (standing_flags t.registers m f a t.given) ≡ turn_of here (flag_entered_of p r mem rom (pair_at log i) flags)
+      → Flagging p rom log total s₀ t.registers m f a t.given skips listed (i + 1)
+  flagging-taken may h l {t} {m} {f} {a} e = on may h l (went (standing_flags t.registers m f a t.given)) (comes may h l {x = record { listed = listed; number = 0 }} {b = skips} e refl) refl
 
   -- a pair done apart from the others: no flag is touched
-  pub flagging-quick : i < total → 2 * total ≤ length log → {x : Quick} → Quickly r (pair_at log i) x → x.done ≡ true
-      → Flagging p rom log total s₀ x.registers mem flags answers given skips listed (i + 1)
-  flagging-quick h l {x} k z =
+  pub flagging-quick : i < total → 2 * total ≤ length log → {x : Registers} → Quickly r (pair_at log i) x
+      → Flagging p rom log total s₀ x mem flags answers given skips listed (i + 1)
+  flagging-quick h l {x} k =
       record {
         goes_on = going-went steps_on Sort (flag-sound p rom _) g.goes_on h l
-            (ap (λ (o : Step Machine). turn_of now_at (skip_by true now_at.machine (flag_by p (with_flags (machine r mem) flags) (pair_at log i) o))) (k.acts z p rom mem)
-            ∙ ap (λ (f : List ℕ). went (on_skips (standing_flags x.registers mem f answers given) skips listed (i + 1))) unflagged);
+            (ap (λ (o : Step Machine). turn_of now_at (skip_by true now_at.machine (flag_by p (with_flags (machine r mem) flags) (pair_at log i) o))) (k.acts p rom mem)
+            ∙ ap (λ (f : List ℕ). went (on_skips (standing_flags x mem f answers given) skips listed (i + 1))) unflagged);
       }
     where
-      unaltered : not (same_display r.display x.registers.display) ≡ false
-      unaltered = ap (λ (d : Display). not (same_display r.display d)) (k.shown z) ∙ ap not (same-own r.display)
+      unaltered : not (same_display r.display x.display) ≡ false
+      unaltered = ap (λ (d : Display). not (same_display r.display d)) k.shown ∙ ap not (same-own r.display)
 
-      unflagged : flags_after p (machine r mem) (pair_at log i) (machine x.registers mem) flags ≡ flags
+      unflagged : flags_after p (machine r mem) (pair_at log i) (machine x mem) flags ≡ flags
       unflagged =
-          flags-after-is p (machine r mem) (pair_at log i) (machine x.registers mem) flags (record { kept = λ y e. refl })
-          ∙ (λ j. marked_of p r.display mem r.bus.pointer (k.stores z p j) (unaltered j) flags)
+          flags-after-is p (machine r mem) (pair_at log i) (machine x mem) flags (record { kept = λ y e. refl })
+          ∙ (λ j. marked_of p r.display mem r.bus.pointer (k.stores p j) (unaltered j) flags)
           ∙ sym (marks-none p r.display mem r.bus.pointer 0 false flags g.goes_on.sound.long refl)
 
   -- a block of data in auto write
-  pub flagging-block : {b : Bool} → b ≡ is_write r.bus.auto → (eqb (get_or log (2 * i) 0) 0 && b) ≡ true → valid_panel p ≡ true → length rom ≡ 1024
+  pub flagging-block : {b : Bool} → b ≡ is_write r.bus.auto → (eqb (get_or log (2 * i) 0) 0 && b) ≡ true → Following p r mem rom flags
       → {m next : List ℕ} {end : ℕ} {t : Registers} → Stretched p r mem log i total flags m next end → t ≡ passed_of r (end - i)
       → Flagging p rom log total s₀ t m next answers given skips listed end
-  flagging-block {b} e w v lr {m} {next} {end} {t} st f =
+  flagging-block {b} e w may {m} {next} {end} {t} st f =
       subst (λ (x : Registers). Flagging p rom log total s₀ x m next answers given skips listed end) (sym (f ∙ ap (passed_of r) (omega (arith, reaches))))
       (subst (λ (x : List ℕ). Flagging p rom log total s₀ (passed_of r n) m x answers given skips listed end) (sym flagged)
       (record {
@@ -354,5 +296,5 @@ module _ {p : Panel} {rom log : List ℕ} {total : ℕ} {s₀ : Standing (Skippi
 
       flagged : next ≡ marked_of p r.display m r.bus.pointer n false flags
       flagged =
-          st.marks ∙ marked-is p r mem rom flags (pair_at log i) (may-follow v lr) m (end - i) false as_long
+          st.marks ∙ marked-is p r mem rom flags (pair_at log i) may m (end - i) false as_long
           ∙ ap (λ (k : ℕ). marked_of p r.display m r.bus.pointer k false flags) (let q : end - i ≡ n = omega (arith, reaches) in q)

@@ -2,8 +2,6 @@
 pub use Rattle.state.specs.declared.panel.Panel.{Panel}
 pub use Rattle.state.specs.declared.registers.Display.{Display}
 pub use Rattle.state.specs.declared.registers.Registers.{Registers}
-pub use Rattle.state.specs.declared.reply.Acted.{Acted}
 pub use Rattle.controller.specs.declared.run.RanOn.{RanOn}
 pub use Rattle.turns.specs.declared.note.Noted.{Noted}
-pub use Rattle.watch.specs.declared.run.FlagTurn.{FlagTurn}
-pub use Rattle.watch.specs.declared.run.Quick.{Quick}
+pub use Rattle.watch.specs.declared.run.Taken.{Taken}

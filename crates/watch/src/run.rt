@@ -1,106 +1,87 @@
 // A run that keeps the flags.
-ghost use Rattle.std.specs.Prelude.{◌≡◌, ◌*◌, ◌<◌, ◌≤◌, true, length, take};
+ghost use Rattle.std.specs.Prelude.{◌≡◌, ◌*◌, ◌<◌, ◌≤◌, true, length, take, IfSome, OnErr};
 ghost use Rattle.controller.specs.Run.{turn_of, run_from, pairs_of};
 ghost use Rattle.controller.specs.Skip.{skip_step};
 ghost use Rattle.flags.specs.Flags.{flag_step};
+ghost use Rattle.flags.specs.Outcome.{flag_entered_of};
 ghost use Rattle.flags.specs.Ready.{Following};
 ghost use Rattle.watch.specs.Watched.{ran_flags, begun_flags, ran_flags_of, flag_run_of};
-ghost use Rattle.watch.specs.Runs.{standing_flags, turned_flags, turned_flags_of, unread_of, Quickly, Stretched, passed_of};
+ghost use Rattle.watch.specs.Runs.{standing_flags, flag_turn, Quickly, Stretched};
 
 use codes::command::is_off;
 use controller::run::{RanOn, ended};
 use effects::effect::{is_write, with_auto};
 use flags::follow::access;
-use ground::bytes::{lesser, word};
+use ground::bytes::word;
 use state::panel::Panel;
-use state::registers::{Auto, Bus, Display, Registers};
+use state::refusal::Refusal;
+use state::registers::{Auto, Registers};
 use touch::touch::mark;
-use turns::block::block;
+use turns::block::{block, passed};
 use turns::note::note;
 use usual::part::{datum, emptied, freed};
 
-// One pair of a run: the registers after, the answers so far, a number.
-#[derive(Clone, Copy)]
-pub(crate) struct FlagTurn {
+// The registers behind a pair that is taken, and the answers given so far: by value, since a local that is lent would stay in memory for the
+// whole loop.
+#[derive(Clone, Copy, Debug, PartialEq, Eq)]
+pub(crate) struct Taken {
     pub registers: Registers,
     pub given: usize,
-    pub number: u8,
-}
-
-// A read without room.
-fn unread(kind: u8, auto: Auto) -> u8
-    ensures { result ≡ unread_of kind auto }
-{
-    if (kind == 2) & is_write(auto) {
-        return 7;
-    }
-    13
 }
 
 // One pair; what a read gives goes into the buffer.
 fn turn(
     panel: Panel,
     registers: Registers,
-    mem: &mut [u8],
+    memory: &mut [u8],
     rom: &[u8],
     answers: &mut [u8],
     given: usize,
     kind: u8,
     byte: u8,
     flags: &mut [u8],
-) -> FlagTurn
-    requires { Following panel registers mem.old rom.now flags.old }
-    ensures { turned_flags result mem.new flags.new answers.new ≡ turned_flags_of (standing_flags registers mem.old flags.old answers.old given) (turn_of (standing_flags registers mem.old flags.old answers.old given) (flag_step panel rom.now (standing_flags registers mem.old flags.old answers.old given).machine (record { kind = kind; byte = byte }))) }
+) -> Result<Taken, Refusal>
+    ensures step { flag_turn result memory.new flags.new answers.new ≡ turn_of (standing_flags registers memory.old flags.old answers.old given) (flag_entered_of panel registers memory.old rom.now (record { kind = kind; byte = byte }) flags.old) }
+    ensures err { OnErr result ((memory.new ≡ memory.old) × ((flags.new ≡ flags.old) × (answers.new ≡ answers.old))) }
 {
-    let bus = registers.bus;
-    let auto = bus.auto;
-    let reads = (kind == 2) | (kind == 3);
-    let full = answers.len() <= given;
-    if reads & full {
-        return FlagTurn {
-            registers,
-            given,
-            number: unread(kind, auto),
-        };
-    }
-    let acted = access(panel, registers, mem, rom, kind, byte, flags);
-    let number = acted.number;
-    let after = acted.registers;
-    if reads & (number == 0) {
-        answers[given] = acted.answer;
-        return FlagTurn {
+    let mut after = registers;
+    let answer = access(&mut after, panel, memory, rom, kind, byte, flags)?;
+    let Some(read) = answer else {
+        return Ok(Taken {
             registers: after,
-            given: given + 1,
-            number: 0,
-        };
+            given,
+        });
+    };
+    if answers.len() <= given {
+        return Err(Refusal::NoRoomForAnswer);
     }
-    FlagTurn {
+    answers[given] = read;
+    Ok(Taken {
         registers: after,
-        given,
-        number,
-    }
+        given: given + 1,
+    })
 }
 
 // A block of data, and the rows that read one of its addresses flagged: once for all of them.
 fn stretch(
     panel: Panel,
     registers: Registers,
-    mem: &mut [u8],
+    memory: &mut [u8],
     log: &[u8],
     from: usize,
     total: usize,
     flags: &mut [u8],
 ) -> usize
-    requires mem_len { length mem.old ≡ 65536 }
+    requires mem_len { length memory.old ≡ 65536 }
     requires total_in_bounds { (2 * total ≤ length log.now) × (from ≤ total) }
-    ensures { Stretched panel registers mem.old log.now from total flags.old mem.new flags.new result }
+    ensures { Stretched panel registers memory.old log.now from total flags.old memory.new flags.new result }
 {
     let bus = registers.bus;
-    let end = block(mem, bus.pointer, log, from, total);
+    let end = block(memory, bus.pointer, log, from, total);
     mark(
         panel,
         registers.display,
-        mem,
+        memory,
         bus.pointer,
         end - from,
         false,
@@ -109,67 +90,41 @@ fn stretch(
     end
 }
 
-// The pointer behind so many data, all else as it was.
-fn passed(registers: Registers, count: usize) -> Registers
-    ensures { result ≡ passed_of registers count }
-{
-    let display = registers.display;
-    let mut bus = registers.bus;
-    let far = (count % 65536) as u16;
-    bus.pointer = std::num::wrapping_add_u16(bus.pointer, far);
-    Registers { display, bus }
-}
-
-// A pair done apart from the others, or left as it was.
-#[derive(Clone, Copy)]
-pub(crate) struct Quick {
-    pub registers: Registers,
-    pub done: bool,
-}
-
-// Done, the display as it was.
-fn quickened(display: Display, bus: Bus) -> Quick
-    ensures { result ≡ record { registers = record { display = display; bus = bus }; done = true } }
-{
-    Quick {
-        registers: Registers { display, bus },
-        done: true,
-    }
-}
-
+// Once more beside `usual`: what two callers of one library share is inlined in neither (docs/DECISIONS.md).
 // What surrounds a block of data, and alters nothing that is shown: data in auto off, 24H, B0H and B2H, where they are taken.
-fn at_once(registers: Registers, kind: u8, byte: u8) -> Quick
-    ensures { Quickly registers (record { kind = kind; byte = byte }) result }
+fn at_once(registers: Registers, kind: u8, byte: u8) -> Option<Registers>
+    ensures { IfSome result (λ next. Quickly registers (record { kind = kind; byte = byte }) next) }
 {
     let display = registers.display;
     let bus = registers.bus;
     let auto = bus.auto;
     let off = is_off(auto);
     if (kind == 0) & off {
-        return quickened(display, datum(bus, byte));
+        let bus = datum(bus, byte);
+        return Some(Registers { display, bus });
     }
     if (kind == 1) & (byte == 0xb2) {
-        return quickened(display, freed(bus));
+        let bus = freed(bus);
+        return Some(Registers { display, bus });
     }
     if (kind == 1) & off & (byte == 0xb0) {
-        return quickened(display, with_auto(emptied(bus), Auto::Write));
+        let bus = with_auto(emptied(bus), Auto::Write);
+        return Some(Registers { display, bus });
     }
     if (kind == 1) & off & (byte == 0x24) & (2 <= bus.pending.count) {
         let mut next = emptied(bus);
         next.pointer = word(bus.pending.older, bus.pending.newest);
-        return quickened(display, next);
+        return Some(Registers { display, bus: next });
     }
-    Quick {
-        registers,
-        done: false,
-    }
+    None
 }
 
-// The first `total` pairs of a log, on what is known to be valid.
+// A loop of its own beside `controller::run`'s: here a block and a pair also mark the rows that they touch.
+// The first `total` pairs of a log, on what is known to be valid. A `while`, since a block takes many at once.
 fn pairs(
     panel: Panel,
     registers: Registers,
-    mem: &mut [u8],
+    memory: &mut [u8],
     rom: &[u8],
     log: &[u8],
     total: usize,
@@ -177,9 +132,9 @@ fn pairs(
     skips: &mut [usize],
     flags: &mut [u8],
 ) -> RanOn
-    requires following { Following panel registers mem.old rom.now flags.old }
+    requires following { Following panel registers memory.old rom.now flags.old }
     requires total_in_bounds { 2 * total ≤ length log.now }
-    ensures { ran_flags result mem.new answers.new skips.new flags.new ≡ ran_flags_of (run_from (skip_step true (flag_step panel rom.now)) 0 (take total (pairs_of log.now)) (begun_flags registers mem.old answers.old skips.old flags.old)) }
+    ensures { ran_flags result memory.new answers.new skips.new flags.new ≡ ran_flags_of (run_from (skip_step true (flag_step panel rom.now)) 0 (take total (pairs_of log.now)) (begun_flags registers memory.old answers.old skips.old flags.old)) }
 {
     let mut state = registers;
     let mut given: usize = 0;
@@ -191,36 +146,45 @@ fn pairs(
         let bus = state.bus;
         let auto = bus.auto;
         if (kind == 0) & is_write(auto) {
-            let end = stretch(panel, state, mem, log, i, total, flags);
-            state = passed(state, end - i);
+            let end = stretch(panel, state, memory, log, i, total, flags);
+            state = Registers {
+                display: state.display,
+                bus: passed(bus, end - i),
+            };
             i = end;
             continue;
         }
-        let quick = at_once(state, kind, byte);
-        if quick.done {
-            state = quick.registers;
+        if let Some(next) = at_once(state, kind, byte) {
+            state = next;
             i += 1;
             continue;
         }
-        let turned = turn(panel, state, mem, rom, answers, given, kind, byte, flags);
-        state = turned.registers;
-        given = turned.given;
-        let noted = note(true, turned.number, i, skips, listed);
-        let number = noted.number;
-        listed = noted.listed;
-        if number != 0 {
-            return ended(number, i, i, given, state, listed);
+        match turn(panel, state, memory, rom, answers, given, kind, byte, flags) {
+            Ok(taken) => {
+                state = taken.registers;
+                given = taken.given;
+            }
+            Err(refusal) => {
+                let noted = note(true, refusal.number(), i, skips, listed);
+                let number = noted.number;
+                listed = noted.listed;
+                if number != 0 {
+                    return ended(number, i, i, given, state, listed);
+                }
+            }
         }
         i += 1;
     }
     ended(0, 0, i, given, state, listed)
 }
 
-// At most `limit` pairs of a log, refused ones skipped and listed.
+/// At most `limit` pairs of a log, refused ones skipped and listed, the flags kept, one of 8 · lines for each dot row. What it answers is
+/// `controller::run`'s; with `Invalid`, `WrongLength` and `OddLength` nothing is touched.
+#[tactic(auto, using(crate::proofs::RunDoors::least), unfolding(crate::specs::Watched::flag_run_of))]
 pub fn run(
     panel: Panel,
     registers: Registers,
-    mem: &mut [u8],
+    memory: &mut [u8],
     rom: &[u8],
     log: &[u8],
     limit: usize,
@@ -228,13 +192,13 @@ pub fn run(
     skips: &mut [usize],
     flags: &mut [u8],
 ) -> RanOn
-    ensures { ran_flags result mem.new answers.new skips.new flags.new ≡ flag_run_of panel registers mem.old rom.now log.now limit answers.old skips.old flags.old }
+    ensures { ran_flags result memory.new answers.new skips.new flags.new ≡ flag_run_of panel registers memory.old rom.now log.now limit answers.old skips.old flags.old }
 {
     let valid = panel.valid() & registers.valid();
     if !valid {
         return ended(1, 0, 0, 0, registers, 0);
     }
-    let fits = (mem.len() == 65536) & (rom.len() == 1024) & (flags.len() == 8 * panel.lines);
+    let fits = (memory.len() == 65536) & (rom.len() == 1024) & (flags.len() == 8 * panel.lines);
     if !fits {
         return ended(2, 0, 0, 0, registers, 0);
     }
@@ -242,8 +206,8 @@ pub fn run(
     if log.len() % 2 != 0 {
         return ended(8, whole, 0, 0, registers, 0);
     }
-    let total = lesser(limit, whole);
+    let total = limit.min(whole);
     pairs(
-        panel, registers, mem, rom, log, total, answers, skips, flags,
+        panel, registers, memory, rom, log, total, answers, skips, flags,
     )
 }

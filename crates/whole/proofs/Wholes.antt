@@ -1,12 +1,13 @@
 -- A log cut into parts of 4,096 pairs: played one after the other they come to the whole.
+use Rattle.std.proofs.lemmas.List.{take_at, drop_at}
 use mathlib.Core.Path.{◌≡◌, refl, ap, sym, ◌∙◌}
 use mathlib.Core.Bool.{Bool, true, false, cond, ◌&&◌}
 use mathlib.Core.List.{List, [], ◌∷◌, ◌++◌}
-use Prim.Native.Nat.{ℕ, zero, suc, ◌+◌, ◌-◌, ◌*◌, ◌/◌, ◌%◌, ◌^◌, ◌<◌, ◌≤◌, min}
+use Prim.Native.Nat.{ℕ, zero, suc, ◌-◌, ◌*◌, ◌/◌, ◌%◌, ◌^◌, ◌<◌, ◌≤◌, min}
 use native.Mathlib.Omega.{arith}
 use lib.Dec.{eqb}
 use lib.ListN.{length, take, drop, replicate, length-replicate, length-take, length-drop, take-append-drop, drop_of_length-le}
-use lib.Seq.{take_all, drop-drop}
+use lib.Seq.{take_all}
 use native.Mathlib.Decide.{dec_le}
 use borrow.Author.Tests.{ne_eqb}
 use Rattle.ground.specs.Lists.{zeros}
@@ -15,8 +16,7 @@ use Rattle.display.specs.Frame.{lent_lengths}
 use Rattle.controller.specs.Access.{step_of}
 use Rattle.controller.specs.Run.{pairs_of, run_from, RanAll, ran_all, ran_of, ran_none, stopping_of}
 use Rattle.controller.specs.Ready.{standing}
-use Rattle.playback.specs.declared.play.Played.{Played}
-use Rattle.playback.specs.Play.{played_all, play_of}
+use Rattle.playback.specs.Play.{play_of}
 use Rattle.playback.specs.Parts.{Part, log_of_parts, Cut, none, one, PartsGathered, play_parts, begun, whole_run}
 use Rattle.playback.proofs.Parted.{part-by-part}
 use Rattle.state.specs.declared.panel.Panel.{Panel}
@@ -103,12 +103,6 @@ cut-drop l {k} e = go (dec_le 8192 (length l))
     go (yes h) = let f : k ≡ 8192 = omega arith in ap (λ (n : ℕ). drop n l) f
     go (no h) = drop_of_length-le l {i = k} (omega arith) ∙ sym (drop_of_length-le l {i = 8192} (omega arith))
 
--- what play gave, without its answers
-pub part-played : (p : Panel) (so : Ran) (mem rom part : List ℕ) {x : Played} {m b a : List ℕ} → played_all x m b ≡ play_of p so mem rom part a → a ≡ zeros 4096
-    → ran_whole x.ran m ≡ without_given (played_part p so mem rom part)
-unfolding played_part
-part-played p so mem rom part e z = ap without_given (e ∙ ap (play_of p so mem rom part) z)
-
 -- a part without a pair
 abbrev pub empty : Part
 empty = record { log = []; room = zeros 4096 }
@@ -137,58 +131,53 @@ part-first p rom part ps so before {ran} {mem} e =
     (λ i. kept (play_parts p rom ps (sofar (e i).ran (e i).memory [])))
     ∙ given-apart p rom ps x.played.ran x.memory [] (take x.played.given x.answers)
 
--- the parts before `at` are played: those left, from here, come to what all do
-pub record Playing (p : Panel) (rom log : List ℕ) (ran₀ : Ran) (mem₀ : List ℕ) (ran : Ran) (mem : List ℕ) (at : ℕ) : Type 0 where
+-- parts are played: those of the rest, from here, come to what all do
+pub record Playing (p : Panel) (rom log : List ℕ) (ran₀ : Ran) (mem₀ : List ℕ) (ran : Ran) (mem rest : List ℕ) : Type 0 where
   pub left : ℕ
-  pub inside : at ≤ length log
-  pub enough : length log ≤ at + 8192 * left
-  pub comes : kept (play_parts p rom (parts_of left (drop at log)) (sofar ran mem [])) ≡ kept (play_parts p rom (parts_of (length log) log) (sofar ran₀ mem₀ []))
+  pub enough : length rest ≤ 8192 * left
+  pub comes : kept (play_parts p rom (parts_of left rest) (sofar ran mem [])) ≡ kept (play_parts p rom (parts_of (length log) log) (sofar ran₀ mem₀ []))
 
 module _ (p : Panel) (rom log : List ℕ) (ran₀ : Ran) (mem₀ : List ℕ) where
-  pub playing : Playing p rom log ran₀ mem₀ ran₀ mem₀ 0
-  playing = record { left = length log; inside = omega arith; enough = omega arith; comes = refl }
+  pub playing : Playing p rom log ran₀ mem₀ ran₀ mem₀ log
+  playing = record { left = length log; enough = omega arith; comes = refl }
 
-  module _ {ran : Ran} {mem : List ℕ} {at : ℕ} (k : Playing p rom log ran₀ mem₀ ran mem at) where
-    pub plays-on : {next : ℕ} {ran' : Ran} {mem' : List ℕ} → at < length log → next ≡ at + min 8192 (length log - at)
-        → ran_whole ran' mem' ≡ without_given (played_part p ran mem rom (take (next - at) (drop at log)))
-        → Playing p rom log ran₀ mem₀ ran' mem' next
-    plays-on {next} {ran'} {mem'} h n e = go k.left k.enough k.comes
+  module _ {ran : Ran} {mem rest : List ℕ} (k : Playing p rom log ran₀ mem₀ ran mem rest) where
+    pub plays-on : (part : List ℕ) {next : List ℕ} {size : ℕ} {ran' : Ran} {mem' : List ℕ} → 0 < length rest → size ≡ 8192 → rest ≡ part ++ next → length part ≡ min size (length rest)
+        → ran_whole ran' mem' ≡ without_given (played_part p ran mem rom part) → Playing p rom log ran₀ mem₀ ran' mem' next
+    plays-on part {next} {size} {ran'} {mem'} h z a b e = go k.left k.enough k.comes
       where
-        long : length (drop at log) ≡ length log - at
-        long = length-drop at log
+        long : length part ≡ min 8192 (length rest)
+        long = omega (arith, b, z)
 
-        part : take (next - at) (drop at log) ≡ take 8192 (drop at log)
-        part = cut-take (drop at log) {k = next - at} (omega (arith, long, n))
+        f : part ≡ take 8192 rest
+        f = sym (ap (take (length part)) a ∙ take_at part next (length part) refl) ∙ cut-take rest long
 
-        behind : drop next log ≡ drop 8192 (drop at log)
-        behind =
-            let f : next ≡ at + (next - at) = omega (arith, n) in
-            ap (λ (m : ℕ). drop m log) f ∙ sym (drop-drop (next - at) at log) ∙ cut-drop (drop at log) {k = next - at} (omega (arith, long, n))
+        n : next ≡ drop 8192 rest
+        n = sym (ap (drop (length part)) a ∙ drop_at part next (length part) refl) ∙ cut-drop rest long
 
-        go : (left : ℕ) → length log ≤ at + 8192 * left
-            → kept (play_parts p rom (parts_of left (drop at log)) (sofar ran mem [])) ≡ kept (play_parts p rom (parts_of (length log) log) (sofar ran₀ mem₀ []))
+        go : (left : ℕ) → length rest ≤ 8192 * left
+            → kept (play_parts p rom (parts_of left rest) (sofar ran mem [])) ≡ kept (play_parts p rom (parts_of (length log) log) (sofar ran₀ mem₀ []))
             → Playing p rom log ran₀ mem₀ ran' mem' next
-        go zero f c = absurd (omega arith)
-        go (suc m) f c =
+        go zero g c = absurd (omega arith)
+        go (suc m) g c =
             record {
               left = m;
-              inside = omega (arith, n);
-              enough = omega (arith, n);
-              comes = ap (λ (l : List ℕ). kept (play_parts p rom (parts_of m l) (sofar ran' mem' []))) behind
-                  ∙ part-first p rom (take 8192 (drop at log)) (parts_of m (drop 8192 (drop at log))) ran mem (e ∙ ap (λ (l : List ℕ). without_given (played_part p ran mem rom l)) part)
-                  ∙ sym (ap (λ (ps : List Part). kept (play_parts p rom ps (sofar ran mem []))) (parts_next m (drop at log) (omega (arith, long))))
+              enough = omega (arith, ap length n, length-drop 8192 rest);
+              comes = ap (λ (l : List ℕ). kept (play_parts p rom (parts_of m l) (sofar ran' mem' []))) n
+                  ∙ part-first p rom (take 8192 rest) (parts_of m (drop 8192 rest)) ran mem (e ∙ ap (λ (l : List ℕ). without_given (played_part p ran mem rom l)) f)
+                  ∙ sym (ap (λ (ps : List Part). kept (play_parts p rom ps (sofar ran mem []))) (parts_next m rest h))
                   ∙ c;
             }
 
-    played-all : length log ≤ at → ran_whole ran mem ≡ kept (play_parts p rom (parts_of (length log) log) (sofar ran₀ mem₀ []))
+    played-all : length rest ≡ 0 → ran_whole ran mem ≡ kept (play_parts p rom (parts_of (length log) log) (sofar ran₀ mem₀ []))
     unfolding play_parts
     played-all h =
-        sym (ap (λ (ps : List Part). kept (play_parts p rom ps (sofar ran mem []))) (parts_none k.left (drop at log) (omega (arith, length-drop at log))))
+        sym (ap (λ (ps : List Part). kept (play_parts p rom ps (sofar ran mem []))) (parts_none k.left rest (omega (arith, h))))
         ∙ k.comes
 
   -- behind a first part without a pair, from reset or any other state
-  pub played-whole : {ran : Ran} {mem : List ℕ} {at : ℕ} → Playing p rom log ran₀ mem₀ ran mem at → (r : Registers) (mem₁ : List ℕ) {so : Ran}
-      → so ≡ (begun r mem₁).ran → ran_whole ran₀ mem₀ ≡ without_given (played_part p so mem₁ rom []) → length log ≤ at → length log % 2 ≡ 0 → length log < 2 ^ 64
+  pub played-whole : {ran : Ran} {mem rest : List ℕ} → Playing p rom log ran₀ mem₀ ran mem rest → (r : Registers) (mem₁ : List ℕ) {so : Ran}
+      → so ≡ (begun r mem₁).ran → ran_whole ran₀ mem₀ ≡ without_given (played_part p so mem₁ rom []) → length rest ≡ 0 → length log % 2 ≡ 0 → length log < 2 ^ 64
       → ran_whole ran mem ≡ whole_of p r mem₁ rom log
   unfolding whole_of log_of_parts
   played-whole k r mem₁ b e h even few =

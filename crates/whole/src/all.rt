@@ -5,7 +5,6 @@ ghost use Rattle.whole.specs.Whole.{ran_whole, whole_of};
 ghost use Rattle.whole.specs.Played.{without_given, played_part};
 
 use controller::run::{Ran, run_stopping};
-use ground::bytes::lesser;
 use playback::play::{begin, play};
 use state::panel::Panel;
 use state::registers::Registers;
@@ -21,6 +20,7 @@ fn no_answers() -> [u8; 4096]
 }
 
 // The next part, its answers dropped.
+#[tactic(auto, unfolding(crate::specs::Played::played_part))]
 fn play_part(panel: Panel, past: Ran, mem: &mut [u8], rom: &[u8], part: &[u8]) -> Ran
     ensures { ran_whole result mem.new ≡ without_given (played_part panel past mem.old rom.now part.now) }
 {
@@ -29,7 +29,7 @@ fn play_part(panel: Panel, past: Ran, mem: &mut [u8], rom: &[u8], part: &[u8]) -
     played.ran
 }
 
-// The first part has no pair: 1 and 2 are found where the log has none either.
+/// A log of any length from a state, by the stopping run, its answers dropped: memory of 65,536 bytes, ROM of 1,024.
 pub fn run_all(panel: Panel, registers: Registers, mem: &mut [u8], rom: &[u8], log: &[u8]) -> Ran
     ensures { ran_whole result mem.new ≡ whole_of panel registers mem.old rom.now log.now }
 {
@@ -37,12 +37,10 @@ pub fn run_all(panel: Panel, registers: Registers, mem: &mut [u8], rom: &[u8], l
         let mut none = [0u8; 0];
         return run_stopping(panel, registers, mem, rom, log, 0, &mut none);
     }
+    // the first part has no pair: 1 and 2 are found where the log has none either
     let mut ran = play_part(panel, begin(registers), mem, rom, &log[..0]);
-    let mut at: usize = 0;
-    while at < log.len() {
-        let next = at + lesser(PART, log.len() - at);
-        ran = play_part(panel, ran, mem, rom, &log[at..next]);
-        at = next;
+    for part in log.chunks(PART) {
+        ran = play_part(panel, ran, mem, rom, part);
     }
     ran
 }

@@ -1,6 +1,5 @@
-// Pieces of a line of words, behind what stands in a lent room. What no longer fits is left out: the room's end then says so.
+// The words of a command's parts: the display bits, what its data set.
 #![tactic(auto)]
 
 pub mod bits;
-pub mod put;
-pub mod target;
+pub mod held;

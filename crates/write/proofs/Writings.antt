@@ -17,17 +17,15 @@ use Rattle.controller.proofs.Logs.{log-length}
 use Rattle.book.specs.Operation.{Operation}
 use Rattle.contents.specs.Contents.{word_at}
 use Rattle.book.specs.Screen.{Screen, screen, refused, screen_of}
-use Rattle.writer.specs.declared.written.Written.{Written}
 use Rattle.writer.specs.Stream.{stream_of, count_of}
-use Rattle.writer.specs.Written.{Wrote, wrote, wrote_all, write_screen, write_of}
+use Rattle.writer.specs.Written.{Written, Wrote, wrote, wrote_all, write_screen, write_of}
 use Rattle.writer.proofs.Lengths.{stream-length}
 use Rattle.writer.proofs.Answers.{Streamed, write-accepted}
 use Rattle.printed.specs.Printed.{panel_in, refusal_line, printed, print_text}
 use Rattle.printed.specs.Screen.{picture_text, print_picture_of}
 use Rattle.printed.proofs.Screens.{line-alone, may-print}
 use Rattle.printed.proofs.Texts.{printed-within}
-use Rattle.write.specs.declared.Lengths.{Lengths}
-use Rattle.write.specs.Writing.{Given, refusal_alone, written, write_given, Both, given_in, both_of, write_given_of}
+use Rattle.write.specs.Writing.{Lengths, Given, refusal_alone, written, write_given, Both, given_in, both_of, write_given_of}
 
 -- a refusal's line is what a picture's text comes to
 pub refusal-put : (p : Panel) {number : ℕ} (place : ℕ) (frame error : List ℕ) → (number ≡ 0 → ⊥) → length error ≡ 196608 → {w : ℕ} {b : List ℕ}

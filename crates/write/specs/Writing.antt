@@ -1,5 +1,5 @@
 -- What the write program gives, of every byte that it reads.
-use Rattle.std.specs.Prelude.{Bool, cond, ◌&&◌, List, [], ◌∷◌, ℕ, ◌*◌, ltb, eqb, length, drop}
+use Rattle.std.specs.Prelude.{Bool, cond, ◌&&◌, List, [], ◌∷◌, ℕ, ◌*◌, ltb, eqb, length, drop, Result, Ok, Err}
 use Rattle.state.specs.declared.panel.Panel.{Panel}
 use Rattle.state.specs.State.{valid_panel}
 use Rattle.controller.specs.Run.{log_of}
@@ -7,7 +7,8 @@ use Rattle.contents.specs.Contents.{word_at}
 use Rattle.book.specs.Screen.{Screen, screen, refused, screen_of}
 use Rattle.writer.specs.Stream.{stream_of, count_of}
 use Rattle.printed.specs.Printed.{panel_in, refusal_line, Printed, printed, print_text}
-use Rattle.write.specs.declared.Lengths.{Lengths}
+use Rattle.state.specs.Refusals.{number_of}
+use Rattle.write.specs.declared.Told.{Told}
 
 -- what goes to standard output, what to standard error, and the refusal number
 pub record Given : Type 0 where
@@ -37,6 +38,17 @@ pub record Both : Type 0 where
   pub output : Printed
   pub error : Printed
   pub number : ℕ
+
+-- how many bytes go to standard output and to standard error, and the refusal number
+pub record Lengths : Type 0 where
+  pub output : ℕ
+  pub error : ℕ
+  pub number : ℕ
+
+-- read from a result
+abbrev pub lengths : Result ℕ Told → Lengths
+lengths (Ok n) = record { output = n; error = 0; number = 0 }
+lengths (Err t) = record { output = 0; error = t.line; number = number_of t.refusal }
 
 abbrev pub given_in : Lengths → List ℕ → List ℕ → Both
 given_in n out error = record { output = printed n.output out; error = printed n.error error; number = n.number }

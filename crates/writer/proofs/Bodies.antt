@@ -7,8 +7,7 @@ use native.Mathlib.Omega.{arith}
 use Rattle.state.specs.declared.panel.Panel.{Panel}
 use Rattle.state.specs.State.{valid_panel}
 use Rattle.book.specs.declared.operation.Placed.{Placed}
-use Rattle.book.specs.declared.operation.Found.{Found}
-use Rattle.book.specs.declared.operation.Found.TheVariants.{Operation as Found-Operation, End, Faulty}
+use Rattle.book.specs.Replies.{Found, Operation as Found-Operation, End, Faulty}
 use Rattle.book.specs.Operation.{Operation, body_count, operation_of, found_at}
 use Rattle.book.specs.Pairs.{placed_pairs}
 use Rattle.book.specs.Range.{InRange, FoundOperation}
@@ -16,28 +15,21 @@ use Rattle.book.specs.Screen.{screen, operations_from}
 use Rattle.book.proofs.Finding.{found-operation, pairs-placed}
 use Rattle.book.proofs.Walking.{Step, step-on, step_end, step-never-faulty}
 use Rattle.writer.specs.Stream.{operation_pairs, body_pairs}
-use Rattle.writer.specs.Put.{PairsPut, RoomFor, operations_in, Roomy, WritableBody}
+use Rattle.writer.specs.declared.put.Stream.{Stream}
+use Rattle.writer.specs.Put.{Puts, RoomFor, operations_in, Roomy, WritableBody}
 use Rattle.writer.proofs.Lengths.{operation-length}
-use Rattle.writer.proofs.Puts.{put-length, Putting, putting, put_on, put-over}
+use Rattle.writer.proofs.Puts.{Putting, putting, put_on, put-over}
 
--- an operation by what it was found to be
-module _ (p : Panel) (book : List ℕ) {at : ℕ} {a : List ℕ} {o x : Placed} (e : o ≡ x) where
-  pub ready-as : Roomy p (InRange p book o) (placed_pairs o) at a → Roomy p (InRange p book x) (placed_pairs x) at a
-  ready-as k = subst (λ (y : Placed). Roomy p (InRange p book y) (placed_pairs y) at a) e k
-
-  pub put-operation-as : {b : List ℕ} {w : ℕ} → PairsPut a at (operation_pairs p (operation_of book x)) b w → PairsPut a at (operation_pairs p (operation_of book o)) b w
-  put-operation-as {b} {w} k = subst (λ (y : Placed). PairsPut a at (operation_pairs p (operation_of book y)) b w) (sym e) k
-
--- with the operations from byte next on still to be put at w
-pub record Writing (p : Panel) (book : List ℕ) (start end at : ℕ) (a b : List ℕ) (next w : ℕ) : Type 0 where
+-- with the operations from byte next on still to be put behind b
+pub record Writing (p : Panel) (book : List ℕ) (start end : ℕ) (a b : Stream) (next : ℕ) : Type 0 where
   pub valid : valid_panel p ≡ true
   pub rest : List Operation
   pub left : operations_from (end - next) p book next end ≡ screen rest
-  pub puts : Putting a at (body_pairs p (operations_in (operations_from (end - start) p book start end))) b w (body_pairs p rest)
-  pub fits : RoomFor (body_count rest) w b
+  pub puts : Putting a (body_pairs p (operations_in (operations_from (end - start) p book start end))) b (body_pairs p rest)
+  pub fits : RoomFor (body_count rest) b
 
-module _ (p : Panel) (book : List ℕ) (start end at : ℕ) {a : List ℕ} where
-  pub writing : WritableBody p book start end at a → Writing p book start end at a a start at
+module _ (p : Panel) (book : List ℕ) (start end : ℕ) {a : Stream} where
+  pub writing : WritableBody p book start end a → Writing p book start end a a start
   writing s =
       let os : List Operation = operations_in (operations_from (end - start) p book start end) in
       let e : s.os ≡ os = sym (ap operations_in s.operations) in
@@ -45,11 +37,11 @@ module _ (p : Panel) (book : List ℕ) (start end at : ℕ) {a : List ℕ} where
         valid = s.panel;
         rest = os;
         left = s.operations ∙ ap screen e;
-        puts = putting a at (body_pairs p os);
-        fits = subst (λ (r : List Operation). RoomFor (body_count r) at a) e s.fits;
+        puts = putting a (body_pairs p os);
+        fits = subst (λ (r : List Operation). RoomFor (body_count r) a) e s.fits;
       }
 
-  module _ {b : List ℕ} {next w : ℕ} (k : Writing p book start end at a b next w) {f : Found} (i : f ≡ found_at p book next end) where
+  module _ {b : Stream} {next : ℕ} (k : Writing p book start end a b next) {f : Found} (i : f ≡ found_at p book next end) where
     module _ {o : Placed} {behind : ℕ} (e : f ≡ Found-Operation o behind) where
       pub writing-found : FoundOperation p book next end o behind
       writing-found = found-operation p book next end (sym i ∙ e)
@@ -61,10 +53,10 @@ module _ (p : Panel) (book : List ℕ) (start end at : ℕ) {a : List ℕ} where
       unfolding body_count
       count-is = ap body_count step.is ∙ ap (λ (m : ℕ). m + body_count step.rest) (pairs-placed p book o writing-found.range)
 
-      pub writing-ready : Roomy p (InRange p book o) (placed_pairs o) w b
+      pub writing-ready : Roomy p (InRange p book o) (placed_pairs o) b
       writing-ready = record { valid = k.valid; range = writing-found.range; fits = omega (arith, k.fits, count-is) }
 
-      pub writing-on : {c : List ℕ} {v : ℕ} → PairsPut b w (operation_pairs p (operation_of book o)) c v → Writing p book start end at a c behind v
+      pub writing-on : {c : Stream} → Puts b (operation_pairs p (operation_of book o)) c → Writing p book start end a c behind
       unfolding body_pairs
       writing-on x =
           record {
@@ -72,17 +64,17 @@ module _ (p : Panel) (book : List ℕ) (start end at : ℕ) {a : List ℕ} where
             rest = step.rest;
             left = step.left;
             puts = put_on
-                (subst (λ (r : List Operation). Putting a at (body_pairs p (operations_in (operations_from (end - start) p book start end))) b w (body_pairs p r)) step.is k.puts)
+                (subst (λ (r : List Operation). Putting a (body_pairs p (operations_in (operations_from (end - start) p book start end))) b (body_pairs p r)) step.is k.puts)
                 x;
             fits = omega
-                (arith, k.fits, count-is, x.ends, put-length x, operation-length p book o writing-found.range, pairs-placed p book o writing-found.range);
+                (arith, k.fits, count-is, x.ends, x.kept, operation-length p book o writing-found.range, pairs-placed p book o writing-found.range);
           }
 
-    pub writing-ends : f ≡ End → PairsPut a at (body_pairs p (operations_in (operations_from (end - start) p book start end))) b w
+    pub writing-ends : f ≡ End → Puts a (body_pairs p (operations_in (operations_from (end - start) p book start end))) b
     unfolding body_pairs
     writing-ends e =
         put-over
-        (subst (λ (r : List Operation). Putting a at (body_pairs p (operations_in (operations_from (end - start) p book start end))) b w (body_pairs p r))
+        (subst (λ (r : List Operation). Putting a (body_pairs p (operations_in (operations_from (end - start) p book start end))) b (body_pairs p r))
         (step_end p book next end k.left (sym i ∙ e)) k.puts)
 
     pub writing-never : f ≡ Faulty → ⊥

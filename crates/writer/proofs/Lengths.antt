@@ -8,8 +8,7 @@ use lib.ListN.{length, take, drop, length-append, length-map, length-drop, repli
 use lib.Seq.{length-take-le}
 use Rattle.ground.specs.Lists.{zeros}
 use Rattle.state.specs.declared.panel.Panel.{Panel}
-use Rattle.contents.specs.declared.ask.Asked.{Asked}
-use Rattle.contents.specs.declared.ask.Asked.TheVariants.{Body, Refused}
+use Rattle.contents.specs.Replies.{Asked, Body, Refused}
 use Rattle.book.specs.declared.operation.Placed.{Placed}
 use Rattle.book.specs.declared.operation.Placed.TheVariants.{Text, Rectangle, Dot, Glyph, Cursor, Combine}
 use Rattle.book.specs.Operation.{Operation, pairs_for, body_count, operation_of}

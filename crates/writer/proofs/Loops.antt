@@ -1,65 +1,61 @@
 -- Loops that put pairs, so many in each turn: bytes of a book, one byte many times, the rows of a rectangle.
 use mathlib.Core.Path.{◌≡◌}
 use mathlib.Core.List.{List, [], ◌∷◌, ◌++◌, map}
-use Prim.Native.Nat.{ℕ, suc, ◌+◌, ◌-◌, ◌*◌, ◌≤◌, ◌<◌}
+use Prim.Native.Nat.{ℕ, suc, ◌+◌, ◌-◌, ◌*◌, ◌<◌}
 use native.Mathlib.Nat.{mul-le-mul_right}
 use native.Mathlib.Omega.{arith}
-use lib.ListN.{length, get_or, take, drop, replicate}
-use lib.Seq.{drop-cons}
+use lib.ListN.{length, get_or, drop, replicate}
+use lib.Seq.{drop-cons, drop-length}
 use Rattle.state.specs.declared.panel.Panel.{Panel}
 use Rattle.controller.specs.Access.{Pair}
 use Rattle.writer.specs.Stream.{datum, block, graphic_home, row_blocks}
-use Rattle.writer.specs.Put.{PairsPut, RoomFor}
+use Rattle.codes.specs.declared.pair.Pair.{Pair as Kinded}
+use Rattle.single.specs.Outcome.{pair_of}
+use Rattle.writer.specs.declared.put.Stream.{Stream}
+use Rattle.writer.specs.Put.{Puts, RoomFor}
 use Rattle.writer.proofs.Puts.{Putting, putting, put_on, put-over}
 
 -- before turn i of n, of k pairs each, with the pairs of `left i` still to be put
-pub record Looping (a : List ℕ) (at n k : ℕ) (left : ℕ → List Pair) (b : List ℕ) (i w : ℕ) : Type 0 where
-  pub upto : i ≤ n
-  pub paced : w ≡ at + 2 * (i * k)
-  pub puts : Putting a at (left 0) b w (left i)
+pub record Looping (a : Stream) (n k : ℕ) (left : ℕ → List Pair) (b : Stream) (i : ℕ) : Type 0 where
+  pub paced : b.at ≡ a.at + 2 * (i * k)
+  pub puts : Putting a (left 0) b (left i)
 
-pub looping : (a : List ℕ) (at n k : ℕ) (left : ℕ → List Pair) → Looping a at n k left a 0 at
-looping a at n k left = record { upto = omega arith; paced = omega arith; puts = putting a at (left 0) }
+pub looping : (a : Stream) (n k : ℕ) (left : ℕ → List Pair) → Looping a n k left a 0
+looping a n k left = record { paced = omega arith; puts = putting a (left 0) }
 
-module _ {a b : List ℕ} {at n k : ℕ} {left : ℕ → List Pair} {i w : ℕ} (x : Looping a at n k left b i w) where
-  pub loop-kept : length b ≡ length a
-  loop-kept = x.puts.kept
+module _ {a b : Stream} {n k : ℕ} {left : ℕ → List Pair} {i : ℕ} (x : Looping a n k left b i) where
+  pub loop-room : i < n → RoomFor (n * k) a → RoomFor k b
+  loop-room h r = omega (arith, mul-le-mul_right k h, x.puts.kept, x.paced)
 
-  pub loop-room : i < n → RoomFor (n * k) at a → RoomFor k w b
-  loop-room h r = omega (arith, mul-le-mul_right k h, loop-kept, x.paced)
-
-  pub loop-on : {c : List ℕ} {e : ℕ} {qs : List Pair} → i < n → left i ≡ qs ++ left (i + 1) → length qs ≡ k → PairsPut b w qs c e → Looping a at n k left c (i + 1) e
-  loop-on h l m y =
+  pub loop-on : {c : Stream} {qs : List Pair} → left i ≡ qs ++ left (i + 1) → length qs ≡ k → Puts b qs c → Looping a n k left c (i + 1)
+  loop-on l m y =
       record {
-        upto = omega arith;
         paced = omega (arith, x.paced, y.ends, m);
         puts = put_on (rw l at x.puts) y;
       }
 
-  pub loop-over : {ps : List Pair} → n ≤ i → left n ≡ [] → left 0 ≡ ps → PairsPut a at ps b w
-  loop-over h l m =
-      let e : i ≡ n = omega (arith, x.upto) in
-      put-over (rw (m, e, l) at x.puts)
+  pub loop-over : {ps : List Pair} → i ≡ n → left n ≡ [] → left 0 ≡ ps → Puts a ps b
+  loop-over e l m = put-over (rw (m, e, l) at x.puts)
 
--- bytes of a book
-abbrev pub bytes_left : List ℕ → ℕ → ℕ → ℕ → List Pair
-bytes_left book from n i = map datum (take (n - i) (drop (from + i) book))
+-- bytes from a list
+abbrev pub bytes_left : List ℕ → ℕ → List Pair
+bytes_left bytes i = map datum (drop i bytes)
 
-pub bytes_next : (book : List ℕ) (from n i : ℕ) → from + n ≤ length book → i < n
-    → bytes_left book from n i ≡ (datum (get_or book (from + i) 0) ∷ []) ++ bytes_left book from n (i + 1)
-bytes_next book from n i h l =
-    let a : n - i ≡ suc (n - (i + 1)) = omega arith in
-    let b : suc (from + i) ≡ from + (i + 1) = omega arith in
-    rw (a, drop-cons book (from + i) 0 (omega arith), b)
+pub bytes_next : (bytes : List ℕ) (i : ℕ) → i < length bytes → bytes_left bytes i ≡ (datum (get_or bytes i 0) ∷ []) ++ bytes_left bytes (i + 1)
+bytes_next bytes i l = let e : i + 1 ≡ suc i = omega arith in rw (e, drop-cons bytes i 0 l)
 
-pub bytes-none : (book : List ℕ) (from n : ℕ) → bytes_left book from n n ≡ []
-bytes-none book from n = let a : n - n ≡ 0 = omega arith in rw a
+pub bytes-none : (bytes : List ℕ) → bytes_left bytes (length bytes) ≡ []
+bytes-none bytes = rw (drop-length bytes)
 
-pub bytes-all : (book : List ℕ) (from n : ℕ) → bytes_left book from n 0 ≡ map datum (take n (drop from book))
-bytes-all book from n =
-    let a : n - 0 ≡ n = omega arith in
-    let b : from + 0 ≡ from = omega arith in
-    rw (a, b)
+-- pairs from a list
+abbrev pub pairs_left : List Kinded → ℕ → List Pair
+pairs_left pairs i = map pair_of (drop i pairs)
+
+pub pairs_next : (pairs : List Kinded) (i : ℕ) (q : Kinded) → i < length pairs → pairs_left pairs i ≡ (pair_of (get_or pairs i q) ∷ []) ++ pairs_left pairs (i + 1)
+pairs_next pairs i q l = let e : i + 1 ≡ suc i = omega arith in rw (e, drop-cons pairs i q l)
+
+pub pairs-none : (pairs : List Kinded) → pairs_left pairs (length pairs) ≡ []
+pairs-none pairs = rw (drop-length pairs)
 
 -- one byte n times
 abbrev pub fill_left : ℕ → ℕ → ℕ → List Pair

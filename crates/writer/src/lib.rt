@@ -3,7 +3,6 @@
 
 pub mod homes;
 mod opening;
-mod put;
+pub mod put;
 pub mod stream;
 pub mod write;
-pub mod written;

@@ -1,99 +1,163 @@
-// Pairs put into a room from a byte on. Each function answers the byte behind its pairs.
-ghost use Rattle.std.specs.Prelude.{[], ◌∷◌, map, ◌%◌, ◌/◌, ◌+◌, ◌≤◌, length, take, drop, replicate};
-ghost use Rattle.writer.specs.Stream.{datum, code, block};
-ghost use Rattle.writer.specs.Put.{PairsPut, RoomFor};
+// Pairs put into a room, one behind the other.
+ghost use Rattle.std.specs.Prelude.{◌≡◌, true, cond, [], ◌∷◌, map, ◌%◌, ◌/◌, ◌+◌, length, replicate};
+ghost use Rattle.state.specs.State.{valid_panel};
+ghost use Rattle.codes.specs.Pairs.{kind_number};
+ghost use Rattle.single.specs.Outcome.{pair_of};
+ghost use Rattle.book.specs.Operation.{cursor};
+ghost use Rattle.book.specs.Range.{CursorRange};
+ghost use Rattle.writer.specs.Stream.{datum, code, block, operation_pairs};
+ghost use Rattle.writer.specs.Put.{Puts, RoomFor};
 
-fn put_datum(room: &mut [u8], at: usize, byte: u8) -> usize
-    requires { RoomFor 1 at room.old }
-    ensures { PairsPut room.old at (datum byte ∷ []) room.new result }
-{
-    room[at] = 0;
-    room[at + 1] = byte;
-    at + 2
-}
+use codes::pair::{Kind, Pair};
+use state::panel::Panel;
 
-pub(crate) fn put_code(room: &mut [u8], at: usize, byte: u8) -> usize
-    requires { RoomFor 1 at room.old }
-    ensures { PairsPut room.old at (code byte ∷ []) room.new result }
+/// A datum.
+pub fn datum(byte: u8) -> Pair
+    ensures { pair_of result ≡ datum byte }
 {
-    room[at] = 1;
-    room[at + 1] = byte;
-    at + 2
-}
-
-// A command with its two data.
-pub(crate) fn put_two(room: &mut [u8], at: usize, first: u8, second: u8, byte: u8) -> usize
-    requires { RoomFor 3 at room.old }
-    ensures { PairsPut room.old at (datum first ∷ datum second ∷ code byte ∷ []) room.new result }
-{
-    let a = put_datum(room, at, first);
-    let b = put_datum(room, a, second);
-    put_code(room, b, byte)
-}
-
-// A command with a word, low byte first.
-pub(crate) fn put_word(room: &mut [u8], at: usize, word: u16, byte: u8) -> usize
-    requires { RoomFor 3 at room.old }
-    ensures { PairsPut room.old at (datum (word % 256) ∷ datum (word / 256) ∷ code byte ∷ []) room.new result }
-{
-    put_two(room, at, (word % 256) as u8, (word / 256) as u8, byte)
-}
-
-// Bytes of the book as data.
-fn put_bytes(room: &mut [u8], at: usize, book: &[u8], from: usize, n: usize) -> usize
-    requires room_for { RoomFor n at room.old }
-    requires n_in_bounds { from + n ≤ length book.now }
-    ensures { PairsPut room.old at (map datum (take n (drop from book.now))) room.new result }
-{
-    let mut i: usize = 0;
-    let mut w = at;
-    while i < n {
-        w = put_datum(room, w, book[from + i]);
-        i += 1;
+    Pair {
+        kind: Kind::Data,
+        byte,
     }
-    w
 }
 
-// One byte n times as data.
-fn put_fill(room: &mut [u8], at: usize, byte: u8, n: usize) -> usize
-    requires { RoomFor n at room.old }
-    ensures { PairsPut room.old at (map datum (replicate n byte)) room.new result }
+/// A command.
+pub fn command(byte: u8) -> Pair
+    ensures { pair_of result ≡ code byte }
 {
-    let mut i: usize = 0;
-    let mut w = at;
-    while i < n {
-        w = put_datum(room, w, byte);
-        i += 1;
+    Pair {
+        kind: Kind::Command,
+        byte,
     }
-    w
 }
 
-// Bytes of the book to an address and on.
-pub(crate) fn put_block(
-    room: &mut [u8],
-    at: usize,
-    address: u16,
-    book: &[u8],
-    from: usize,
-    n: usize,
-) -> usize
-    requires room_for { RoomFor (n + 5) at room.old }
-    requires n_in_bounds { from + n ≤ length book.now }
-    ensures { PairsPut room.old at (block address (take n (drop from book.now))) room.new result }
+// Text, graphics and cursor shown, the cursor steady or blinking.
+fn cursor_code(blink: bool) -> u8
+    ensures { result ≡ cond blink 0x9f 0x9e }
 {
-    let a = put_word(room, at, address, 0x24);
-    let b = put_code(room, a, 0xb0);
-    let c = put_bytes(room, b, book, from, n);
-    put_code(room, c, 0xb2)
+    if blink { 0x9f } else { 0x9e }
 }
 
-// One byte n times to an address and on.
-pub(crate) fn put_run(room: &mut [u8], at: usize, address: u16, byte: u8, n: usize) -> usize
-    requires { RoomFor (n + 5) at room.old }
-    ensures { PairsPut room.old at (block address (replicate n byte)) room.new result }
+/// The pairs of a cursor on a line and column of a panel, `height` rows high: the line by its Y.
+pub fn cursor(panel: Panel, line: u8, column: u8, height: u8, blink: bool) -> [Pair; 5]
+    ensures { (valid_panel panel ≡ true) → CursorRange panel line column height → map pair_of result ≡ operation_pairs panel (cursor line column height blink) }
 {
-    let a = put_word(room, at, address, 0x24);
-    let b = put_code(room, a, 0xb0);
-    let c = put_fill(room, b, byte, n);
-    put_code(room, c, 0xb2)
+    let y = (panel.cursor_y(line) % 256) as u8;
+    [
+        datum(column),
+        datum(y),
+        command(0x21),
+        command(0xa0u8.wrapping_add(height.wrapping_sub(1))),
+        command(cursor_code(blink)),
+    ]
+}
+
+/// A stream that is being put into a lent room: a kind and a byte for each pair, the next pair at byte `at`.
+#[derive(Drop)]
+pub struct Stream<'a> {
+    pub room: &'a mut [u8],
+    pub at: usize,
+}
+
+impl Stream<'_> {
+    // One pair.
+    fn put(&mut self, kind: Kind, byte: u8)
+        requires { RoomFor 1 self.old }
+        ensures { Puts self.old (record { kind = kind_number kind; byte = byte } ∷ []) self.new }
+    {
+        self.room[self.at] = kind.number();
+        self.room[self.at + 1] = byte;
+        self.at += 2;
+    }
+
+    // Pairs for which there is room.
+    fn put_all(&mut self, pairs: &[Pair])
+        requires { RoomFor (length pairs.now) self.old }
+        ensures { Puts self.old (map pair_of pairs.now) self.new }
+    {
+        for pair in pairs {
+            self.put(pair.kind, pair.byte);
+        }
+    }
+
+    /// Pairs, if there is room for all of them; else the stream stays as it was.
+    pub fn add(&mut self, pairs: &[Pair])
+        ensures room { RoomFor (length pairs.now) self.old → Puts self.old (map pair_of pairs.now) self.new }
+        ensures none { (RoomFor (length pairs.now) self.old → ⊥) → self.new ≡ self.old }
+    {
+        let free = self.room.len().saturating_sub(self.at);
+        if (self.at <= self.room.len()) & (pairs.len() <= free / 2) {
+            self.put_all(pairs);
+        }
+    }
+
+    // A command without data.
+    pub(crate) fn command(&mut self, byte: u8)
+        requires { RoomFor 1 self.old }
+        ensures { Puts self.old (code byte ∷ []) self.new }
+    {
+        self.put(Kind::Command, byte);
+    }
+
+    // A command with its two data.
+    pub(crate) fn command_with(&mut self, first: u8, second: u8, byte: u8)
+        requires { RoomFor 3 self.old }
+        ensures { Puts self.old (datum first ∷ datum second ∷ code byte ∷ []) self.new }
+    {
+        self.put(Kind::Data, first);
+        self.put(Kind::Data, second);
+        self.command(byte);
+    }
+
+    // A command with a word, low byte first.
+    pub(crate) fn command_with_word(&mut self, word: u16, byte: u8)
+        requires { RoomFor 3 self.old }
+        ensures { Puts self.old (datum (word % 256) ∷ datum (word / 256) ∷ code byte ∷ []) self.new }
+    {
+        let [low, high] = word.to_le_bytes();
+        self.command_with(low, high, byte);
+    }
+
+    // Bytes as data.
+    fn data(&mut self, bytes: &[u8])
+        requires { RoomFor (length bytes.now) self.old }
+        ensures { Puts self.old (map datum bytes.now) self.new }
+    {
+        for byte in bytes {
+            self.put(Kind::Data, *byte);
+        }
+    }
+
+    // Beside `data`, as `run` beside `block`: one for both would need an iterator in its contract, no plainer.
+    // One byte n times as data.
+    fn repeated(&mut self, byte: u8, n: usize)
+        requires { RoomFor n self.old }
+        ensures { Puts self.old (map datum (replicate n byte)) self.new }
+    {
+        for _ in 0..n {
+            self.put(Kind::Data, byte);
+        }
+    }
+
+    // Bytes to an address and on.
+    pub(crate) fn block(&mut self, address: u16, bytes: &[u8])
+        requires { RoomFor (length bytes.now + 5) self.old }
+        ensures { Puts self.old (block address bytes.now) self.new }
+    {
+        self.command_with_word(address, 0x24);
+        self.command(0xb0);
+        self.data(bytes);
+        self.command(0xb2);
+    }
+
+    // One byte n times to an address and on.
+    pub(crate) fn run(&mut self, address: u16, byte: u8, n: usize)
+        requires { RoomFor (n + 5) self.old }
+        ensures { Puts self.old (block address (replicate n byte)) self.new }
+    {
+        self.command_with_word(address, 0x24);
+        self.command(0xb0);
+        self.repeated(byte, n);
+        self.command(0xb2);
+    }
 }

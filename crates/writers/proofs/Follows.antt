@@ -1,5 +1,5 @@
 -- A log followed pair by pair: what is left from here comes to the whole, and the list holds the stores so far.
-use Rattle.std.proofs.Common.{◌≡◌, ℕ, zero, suc, ◌+◌, ◌-◌, ◌*◌, ◌/◌, ◌%◌, ◌^◌, ◌<◌, ◌≤◌, Bool, true, false, cond, not, ◌&&◌, ◌||◌, eqb, ltb, leb, List, [], ◌++◌, length, get_or, take, set, sym, refl, ap, ◌∙◌, subst, arith, take_all, get_or-set_same, ltb-true, eq-eqb, ne_eqb, eqb-true, le-leb, leb-false, leb-true}
+use Rattle.std.proofs.Common.{◌≡◌, ℕ, zero, suc, ◌+◌, ◌-◌, ◌*◌, ◌/◌, ◌%◌, ◌^◌, ◌<◌, ◌≤◌, Bool, true, false, cond, not, ◌&&◌, ◌||◌, eqb, ltb, leb, List, [], ◌++◌, length, get_or, take, set, sym, refl, ap, ◌∙◌, subst, arith, take_all, get_or-set_same, ltb-true, eq-eqb, eqb-true, le-leb, leb-false, leb-true}
 use mathlib.Core.Bool.{false≢true}
 use lib.Seq.{sets}
 use borrow.Author.Tests.{lt-leb}
@@ -374,16 +374,6 @@ module _ (p : Panel) (r : Registers) (mem rom log : List ℕ) (first last : ℕ)
   unfolding list_of
   by_tests v l e x y z =
       λ t. cond ((sym x ∙ (λ t. i t && j t)) t) (cond (sym y t) (cond (sym z t) within (listed_all (unlisted 8 (length log / 2) r) mem list)) (listed_all (unlisted 2 0 r) mem list)) (listed_all (unlisted 1 0 r) mem list)
-
-  pub list-1 : {x : Listed} → (a && b) ≡ false → x ≡ unlisted 1 0 r → listed_all x mem list ≡ list_of p r mem rom log first last list
-  list-1 v h = ap (λ (x : Listed). listed_all x mem list) h ∙ by_tests false _ _ v refl refl
-
-  pub list-2 : {x : Listed} → (a && b) ≡ true → lent_lengths mem rom ≡ false → x ≡ unlisted 2 0 r → listed_all x mem list ≡ list_of p r mem rom log first last list
-  list-2 v l h = ap (λ (x : Listed). listed_all x mem list) h ∙ by_tests true false _ v l refl
-
-  pub list-8 : {x : Listed} → (a && b) ≡ true → lent_lengths mem rom ≡ true → (length log % 2 ≡ 0 → ⊥) → x ≡ unlisted 8 (length log / 2) r
-      → listed_all x mem list ≡ list_of p r mem rom log first last list
-  list-8 v l o h = ap (λ (x : Listed). listed_all x mem list) h ∙ by_tests true true false v l (ne_eqb (length log % 2) 0 o)
 
   pub list-0 : {x : ListedAll} → (a && b) ≡ true → lent_lengths mem rom ≡ true → length log % 2 ≡ 0 → x ≡ within → x ≡ list_of p r mem rom log first last list
   list-0 v l e h = h ∙ by_tests true true true v l (eq-eqb (length log % 2) 0 e)

@@ -1,5 +1,5 @@
 -- Any pair by a whole access, and what it stored.
-use Rattle.std.proofs.Common.{◌≡◌, ℕ, ◌-◌, ◌≤◌, Bool, true, false, cond, ◌||◌, eqb, List, get_or, sym, refl, ap, ◌∙◌, subst, arith}
+use Rattle.std.proofs.Common.{◌≡◌, ℕ, ◌-◌, ◌≤◌, Bool, true, false, cond, ◌&&◌, ◌||◌, eqb, List, get_or, Option, Some, None, Ok, Err, sym, ap, ◌∙◌, subst, arith}
 use Rattle.state.specs.State.{valid_panel}
 use Rattle.state.specs.Combination.{is_attribute}
 use Rattle.state.proofs.Valid.{panelled}
@@ -8,15 +8,15 @@ use Rattle.effects.specs.Machine.{Machine, machine}
 use Rattle.effects.specs.Effect.{is_write}
 use Rattle.sight.specs.Sight.{position}
 use Rattle.controller.specs.Types.{Command, Set, Mode, DisplayMode, Height, Run, Store, Load, Peek, Copy, Bit, Decoded, Defined, Undefined, Position, At, Nowhere}
-use Rattle.controller.specs.Access.{Pair, Step, done, answered, refused, step_of, Accessed, replied, acted_of, access_of}
+use Rattle.controller.specs.Access.{Pair, Step, refused, step_of}
 use Rattle.controller.specs.Ready.{Runs}
-use Rattle.controller.proofs.Readied.{access-runs}
-use Rattle.controller.proofs.Turns.{step-number}
+use Rattle.single.specs.Outcome.{outcome, entered_of}
+use Rattle.state.specs.declared.refusal.Refusal.{Refusal}
 use Rattle.stores.specs.Stores.{copy_stores, command_stores, code_stores, stores_of, stores_asked, from_address}
 use Rattle.noting.specs.Stretch.{store, store_at}
 use Rattle.noting.specs.Noted.{Noting, noting, noted_each}
 use Rattle.noting.proofs.Notes.{notes-same}
-use Rattle.writers.specs.Types.{Panel, Registers, Acted}
+use Rattle.writers.specs.Types.{Panel, Registers}
 use Rattle.writers.specs.Ready.{Held, Behind, behind, behind_by}
 use Rattle.writers.proofs.Holding.{stores_by}
 
@@ -68,40 +68,34 @@ module _ {p : Panel} {r : Registers} {mem rom : List ℕ} (k : Runs p r mem rom)
   pub asked-few : {n : ℕ} → n ≡ stores_asked p r q → n ≤ 80
   asked-few e = subst (λ (j : ℕ). j ≤ 80) (sym (e ∙ asked)) (stores-few p k.panel r q)
 
-  module _ (first last pair count : ℕ) (list : List ℕ) {a : Acted} {after : List ℕ} (e : replied a after ≡ access_of p r mem rom q) where
+  -- on what is known to be valid an access is its step
+  stepped : {o : Step Machine} → o ≡ entered_of p r mem rom q → o ≡ step_of p rom (machine r mem) q
+  unfolding entered_of
+  stepped e = e ∙ (λ t. cond (k.panel t && k.state t) (cond (k.lent t) (step_of p rom (machine r mem) q) (refused 2)) (refused 1))
+
+  module _ (first last pair count : ℕ) (list : List ℕ) where
     abbrev due : Step Machine → Behind
     due o = behind_by p first last pair (machine r mem) q (noting count list) o
 
-    abbrev gone : Registers → List ℕ → Behind
-    gone r' m = behind (machine r' m) (noted_each first last (store_at pair (machine r mem) (machine r' m)) (stores_of p r q) (noting count list))
-
     -- accepted: the bytes it stored, those before as they were held
-    pub through-accepted : a.number ≡ 0 → {n : ℕ} → n ≡ stores_asked p r q → {before : List ℕ} → Held mem r.bus.pointer n before
-        → {x : Noting} → x ≡ noted_each first last (stores_by pair r.bus.pointer before after) n (noting count list)
-        → behind (machine a.registers after) x ≡ due (step_of p rom (machine r mem) q)
-    through-accepted z {n} s {before} h {x} f =
-        (λ j. behind (machine a.registers after) (noted j)) ∙ go (step_of p rom (machine r mem) q) refl (e ∙ access-runs k q)
+    pub through-accepted : (x : Option ℕ) {next : Registers} {after : List ℕ} → outcome (Ok x) next after ≡ entered_of p r mem rom q → {n : ℕ} → n ≡ stores_asked p r q → {before : List ℕ} → Held mem r.bus.pointer n before
+        → {y : Noting} → y ≡ noted_each first last (stores_by pair r.bus.pointer before after) n (noting count list)
+        → behind (machine next after) y ≡ due (step_of p rom (machine r mem) q)
+    through-accepted x {next} {after} e {n} s {before} h {y} f = (λ j. behind (machine next after) (noted j)) ∙ go x e
       where
-        noted : x ≡ noted_each first last (store_at pair (machine r mem) (machine a.registers after)) (stores_of p r q) (noting count list)
+        noted : y ≡ noted_each first last (store_at pair (machine r mem) (machine next after)) (stores_of p r q) (noting count list)
         noted =
             f
-            ∙ notes-same first last (stores_by pair r.bus.pointer before after) (store_at pair (machine r mem) (machine a.registers after)) n (noting count list)
+            ∙ notes-same first last (stores_by pair r.bus.pointer before after) (store_at pair (machine r mem) (machine next after)) n (noting count list)
             (λ j l t. store pair (from_address r.bus.pointer j) (h.holds j l t) (get_or after (from_address r.bus.pointer j) 0))
-            ∙ ap (λ (j : ℕ). noted_each first last (store_at pair (machine r mem) (machine a.registers after)) j (noting count list)) (s ∙ asked)
+            ∙ ap (λ (j : ℕ). noted_each first last (store_at pair (machine r mem) (machine next after)) j (noting count list)) (s ∙ asked)
 
-        go : (o : Step Machine) → step_of p rom (machine r mem) q ≡ o → replied a after ≡ acted_of r mem o → gone a.registers after ≡ due o
-        go (done t) w i = λ j. gone (i j).acted.registers (i j).memory
-        go (answered t c) w i = λ j. gone (i j).acted.registers (i j).memory
-        go (refused c) w i =
-            let low = step-number p rom (machine r mem) q.kind q.byte c w in
-            let same : a.number ≡ c = ap (λ (y : Accessed). y.acted.number) i in
-            absurd (let y : ⊥ = omega (arith, low.0) in y)
+        go : (x : Option ℕ) → outcome (Ok x) next after ≡ entered_of p r mem rom q
+            → behind (machine next after) (noted_each first last (store_at pair (machine r mem) (machine next after)) (stores_of p r q) (noting count list)) ≡ due (step_of p rom (machine r mem) q)
+        go None e = ap due (stepped e)
+        go (Some b) e = ap due (stepped e)
 
     -- refused: all as it was
-    pub through-refused : (a.number ≡ 0 → ⊥) → behind (machine a.registers after) (noting count list) ≡ due (step_of p rom (machine r mem) q)
-    through-refused z = go (step_of p rom (machine r mem) q) (e ∙ access-runs k q)
-      where
-        go : (o : Step Machine) → replied a after ≡ acted_of r mem o → behind (machine a.registers after) (noting count list) ≡ due o
-        go (done t) i = absurd (z (ap (λ (y : Accessed). y.acted.number) i))
-        go (answered t c) i = absurd (z (ap (λ (y : Accessed). y.acted.number) i))
-        go (refused c) i = λ j. behind (machine (i j).acted.registers (i j).memory) (noting count list)
+    pub through-refused : (x : Refusal) {next : Registers} {after : List ℕ} → outcome (Err x) next after ≡ entered_of p r mem rom q → (next ≡ r) × (after ≡ mem)
+        → behind (machine next after) (noting count list) ≡ due (step_of p rom (machine r mem) q)
+    through-refused x e same = (λ j. behind (machine (same.0 j) (same.1 j)) (noting count list)) ∙ ap due (stepped e)

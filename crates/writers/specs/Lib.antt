@@ -1,4 +1,5 @@
 pub mod Types
+pub mod Replied
 pub mod Listing
 pub mod Listed
 pub mod Ready

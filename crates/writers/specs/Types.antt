@@ -6,7 +6,6 @@ pub use Rattle.state.specs.declared.registers.Auto.TheVariants.{Off, Write, Read
 pub use Rattle.state.specs.declared.registers.Pending.{Pending}
 pub use Rattle.state.specs.declared.registers.Bus.{Bus}
 pub use Rattle.state.specs.declared.registers.Registers.{Registers}
-pub use Rattle.state.specs.declared.reply.Acted.{Acted}
-pub use Rattle.usual.specs.declared.draw.Drawn.{Drawn}
-pub use Rattle.writers.specs.declared.list.Listed.{Listed}
+pub use Rattle.usual.specs.Done.{Drawn}
+pub use Rattle.writers.specs.Replied.{Listed, listed}
 pub use Rattle.noting.specs.declared.say.Said.{Said}

@@ -9,13 +9,13 @@ use ground::stretches::read_round;
 use noting::note::note;
 
 // The bytes from an address on, before a pair stores there.
-pub(crate) fn hold(mem: &[u8], at: u16, n: usize) -> [u8; 80]
-    requires { (length mem.now ≡ 65536) × (n ≤ 80) }
-    ensures held { Held mem.now at n result }
+pub(crate) fn hold(memory: &[u8], at: u16, n: usize) -> [u8; 80]
+    requires { (length memory.now ≡ 65536) × (n ≤ 80) }
+    ensures held { Held memory.now at n result }
     ensures value { 80 ≡ length result }
 {
     let mut bytes = [0u8; 80];
-    read_round(8, mem, at, &mut bytes[..n]);
+    read_round(8, memory, at, &mut bytes[..n]);
     bytes
 }
 
@@ -27,20 +27,18 @@ pub(crate) fn note_all(
     at: u16,
     n: usize,
     before: &[u8],
-    mem: &[u8],
+    memory: &[u8],
     first: u16,
     last: u16,
 ) -> usize
-    requires { (length mem.now ≡ 65536) × (n ≤ 80) × (length before.now ≡ 80) }
-    ensures { noting result list.new ≡ noted_each first last (λ j. store pair (from_address at j) (slice_index before.now j) (slice_index mem.now (from_address at j))) n (noting count list.old) }
+    requires { (length memory.now ≡ 65536) × (n ≤ 80) × (length before.now ≡ 80) }
+    ensures { noting result list.new ≡ noted_each first last (λ j. store pair (from_address at j) (slice_index before.now j) (slice_index memory.now (from_address at j))) n (noting count list.old) }
 {
     let mut entries = count;
-    let mut j: usize = 0;
-    while j < n {
-        let there = std::num::wrapping_add_u16(at, j as u16);
-        let after = mem[there as usize];
+    for j in 0..n {
+        let there = at.wrapping_add(j as u16);
+        let after = memory[there as usize];
         entries = note(list, entries, pair, there, before[j], after, first, last);
-        j += 1;
     }
     entries
 }

@@ -1,8 +1,10 @@
 // The stores of a log into a stretch of memory, listed.
 ghost use Rattle.std.specs.Prelude.{◌≡◌, ◌*◌, ◌/◌, ◌%◌, length};
+ghost use Rattle.state.specs.Refusals.{number_of};
 ghost use Rattle.controller.specs.Run.{pairs_of, run_from};
 ghost use Rattle.controller.specs.Ready.{Runs};
 ghost use Rattle.writers.specs.Listing.{list_step, begun_list};
+ghost use Rattle.writers.specs.Replied.{listed};
 ghost use Rattle.writers.specs.Listed.{unlisted, listed_all, listed_of, list_of};
 ghost use Rattle.writers.specs.Ready.{ended_of};
 
@@ -12,71 +14,75 @@ use effects::effect::{is_read, is_write};
 use noting::block::lay;
 use noting::say::say;
 use state::panel::Panel;
+use state::refusal::{Refusal, Refused};
 use state::registers::{Bus, Display, Registers};
 use turns::block::passed;
 use usual::draw::draw;
 use usual::part::{datum, emptied, freed, ticked};
 
-// A number and place, the entries listed, the registers after.
-#[derive(Clone, Copy)]
+/// What a list comes to: the registers behind the log, how many entries stand in the list, four numbers each, and its refusal. `NoRoomInList` has
+/// the entries needed for its place, and the first ones stand in the list.
+#[derive(Clone, Copy, Debug, PartialEq, Eq)]
 pub struct Listed {
     pub registers: Registers,
-    pub number: u8,
-    pub place: usize,
     pub count: usize,
+    pub end: Result<(), Refused>,
 }
 
-fn refuse(number: u8, place: usize, registers: Registers) -> Listed
-    ensures { result ≡ unlisted number place registers }
+fn refuse(refused: Refused, registers: Registers) -> Listed
+    ensures { listed result ≡ unlisted (number_of refused.refusal) refused.place registers }
 {
     Listed {
         registers,
-        number,
-        place,
         count: 0,
+        end: Err(refused),
     }
 }
 
-// All entries needed, or 15 where they don't fit.
+// All entries needed, or `NoRoomInList` where they don't fit.
 fn ended(display: Display, bus: Bus, room: usize, count: usize) -> Listed
-    ensures { result ≡ ended_of (record { display = display; bus = bus }) room count }
+    ensures { listed result ≡ ended_of (record { display = display; bus = bus }) room count }
 {
+    let registers = Registers { display, bus };
     if count <= room {
         return Listed {
-            registers: Registers { display, bus },
-            number: 0,
-            place: 0,
+            registers,
             count,
+            end: Ok(()),
         };
     }
     Listed {
-        registers: Registers { display, bus },
-        number: 15,
-        place: count,
+        registers,
         count: room,
+        end: Err(Refused {
+            refusal: Refusal::NoRoomInList,
+            place: count,
+        }),
     }
 }
 
+// A loop of its own beside `controller::run`'s: here the stores into the stretch are noted.
 // All pairs of a log, on a machine that is known to be valid. As in `controller::run`, each test ends in `continue`; any pair left goes through
 // a whole access.
 fn follow(
     panel: Panel,
     mut display: Display,
     mut bus: Bus,
-    mem: &mut [u8],
+    memory: &mut [u8],
     rom: &[u8],
     log: &[u8],
     first: u16,
     last: u16,
     list: &mut [usize],
 ) -> Listed
-    requires runs { Runs panel (record { display = display; bus = bus }) mem.old rom.now }
+    requires runs { Runs panel (record { display = display; bus = bus }) memory.old rom.now }
     requires log_len { length log.now % 2 ≡ 0 }
-    ensures { listed_all result mem.new list.new ≡ listed_of list.old (run_from (list_step panel rom.now first last) 0 (pairs_of log.now) (begun_list (record { display = display; bus = bus }) mem.old)).standing.machine }
+    ensures { listed_all (listed result) memory.new list.new ≡ listed_of list.old (run_from (list_step panel rom.now first last) 0 (pairs_of log.now) (begun_list (record { display = display; bus = bus }) memory.old)).standing.machine }
 {
     let total = log.len() / 2;
     let mut count: usize = 0;
     let mut i: usize = 0;
+    // a `while`, since a block takes many pairs at once
     while i < total {
         let pair = i;
         i += 1;
@@ -84,7 +90,17 @@ fn follow(
         let byte = log[2 * pair + 1];
         let auto = bus.auto;
         if (kind == 0) & is_write(auto) {
-            let laid = lay(mem, list, count, log, pair, total, bus.pointer, first, last);
+            let laid = lay(
+                memory,
+                list,
+                count,
+                log,
+                pair,
+                total,
+                bus.pointer,
+                first,
+                last,
+            );
             bus = passed(bus, laid.pairs);
             count = laid.count;
             i = pair + laid.pairs;
@@ -99,15 +115,14 @@ fn follow(
             continue;
         }
         let quiet = (kind == 1) & off;
-        let said = say(bus, mem, quiet, byte, pair, list, count, first, last);
+        let said = say(bus, memory, quiet, byte, pair, list, count, first, last);
         if said.done {
             count = said.count;
             bus = said.bus;
             continue;
         }
-        let drawn = draw(display, quiet & (byte < 0xc0), byte);
-        if drawn.done {
-            display = drawn.display;
+        if let Some(next) = draw(display, quiet & (byte < 0xc0), byte) {
+            display = next;
             bus = emptied(bus);
             continue;
         }
@@ -116,7 +131,7 @@ fn follow(
             continue;
         }
         if (kind == 2) & is_read(auto) {
-            bus.pointer = std::num::wrapping_add_u16(bus.pointer, 1);
+            bus.pointer = bus.pointer.wrapping_add(1);
             continue;
         }
         if kind == 4 {
@@ -124,40 +139,50 @@ fn follow(
             continue;
         }
         let gone = through(
-            panel, display, bus, mem, rom, kind, byte, pair, list, count, first, last,
+            panel, display, bus, memory, rom, kind, byte, pair, list, count, first, last,
         );
-        display = gone.display;
-        bus = gone.bus;
+        display = gone.registers.display;
+        bus = gone.registers.bus;
         count = gone.count;
     }
     ended(display, bus, list.len() / 4, count)
 }
 
-// The tests at the door, then the pairs.
+/// Every store of a log into a stretch of memory, its first and its last address; the stretch goes round where the last is below the first. The
+/// log is run, refused pairs skipped. `Invalid`, `WrongLength` of memory (65,536) or ROM (1,024), and `OddLength` with the pairs of the log leave
+/// all as it was.
+#[tactic(auto, unfolding(crate::specs::Listed::list_of))]
 pub fn list(
     panel: Panel,
     registers: Registers,
-    mem: &mut [u8],
+    memory: &mut [u8],
     rom: &[u8],
     log: &[u8],
     first: u16,
     last: u16,
     list: &mut [usize],
 ) -> Listed
-    ensures { listed_all result mem.new list.new ≡ list_of panel registers mem.old rom.now log.now first last list.old }
+    ensures { listed_all (listed result) memory.new list.new ≡ list_of panel registers memory.old rom.now log.now first last list.old }
 {
     let valid = panel.valid() & registers.valid();
     if !valid {
-        return refuse(1, 0, registers);
+        return refuse(Refusal::Invalid.into(), registers);
     }
-    let fits = (mem.len() == 65536) & (rom.len() == 1024);
+    let fits = (memory.len() == 65536) & (rom.len() == 1024);
     if !fits {
-        return refuse(2, 0, registers);
+        return refuse(Refusal::WrongLength.into(), registers);
     }
     if log.len() % 2 != 0 {
-        return refuse(8, log.len() / 2, registers);
+        let place = log.len() / 2;
+        return refuse(
+            Refused {
+                refusal: Refusal::OddLength,
+                place,
+            },
+            registers,
+        );
     }
     let display = registers.display;
     let bus = registers.bus;
-    follow(panel, display, bus, mem, rom, log, first, last, list)
+    follow(panel, display, bus, memory, rom, log, first, last, list)
 }

@@ -7,16 +7,15 @@ ghost use Rattle.noting.specs.Noted.{noting};
 ghost use Rattle.writers.specs.Ready.{behind, behind_by};
 
 use super::held::{hold, note_all};
-use single::access::access;
+use single::access::accessed;
 use state::panel::Panel;
 use state::registers::{Bus, Display, Registers};
 use stores::stores::stores;
 
-// The registers behind a pair, and the entries needed then.
-#[derive(Clone, Copy)]
+// The registers behind a pair, and the entries needed then: by value, since a local that is lent would stay in memory for the whole loop.
+#[derive(Clone, Copy, Debug, PartialEq, Eq)]
 pub(crate) struct Gone {
-    pub display: Display,
-    pub bus: Bus,
+    pub registers: Registers,
     pub count: usize,
 }
 
@@ -25,7 +24,7 @@ pub(crate) fn through(
     panel: Panel,
     display: Display,
     bus: Bus,
-    mem: &mut [u8],
+    memory: &mut [u8],
     rom: &[u8],
     kind: u8,
     byte: u8,
@@ -35,36 +34,34 @@ pub(crate) fn through(
     first: u16,
     last: u16,
 ) -> Gone
-    requires { Runs panel (record { display = display; bus = bus }) mem.old rom.now }
-    ensures { behind (machine (record { display = result.display; bus = result.bus }) mem.new) (noting result.count list.new) ≡ behind_by panel first last pair (machine (record { display = display; bus = bus }) mem.old) (record { kind = kind; byte = byte }) (noting count list.old) (step_of panel rom.now (machine (record { display = display; bus = bus }) mem.old) (record { kind = kind; byte = byte })) }
+    requires { Runs panel (record { display = display; bus = bus }) memory.old rom.now }
+    ensures { behind (machine result.registers memory.new) (noting result.count list.new) ≡ behind_by panel first last pair (machine (record { display = display; bus = bus }) memory.old) (record { kind = kind; byte = byte }) (noting count list.old) (step_of panel rom.now (machine (record { display = display; bus = bus }) memory.old) (record { kind = kind; byte = byte })) }
 {
     let registers = Registers { display, bus };
     let all = stores(panel, registers, kind, byte);
-    let before = hold(mem, bus.pointer, all);
-    let acted = access(panel, registers, mem, rom, kind, byte);
-    let next = acted.registers.display;
-    let then = acted.registers.bus;
-    if acted.number == 0 {
-        let noted = note_all(
-            list,
+    let before = hold(memory, bus.pointer, all);
+    let done = accessed(panel, registers, memory, rom, kind, byte);
+    match done.answer {
+        Ok(_) => {
+            let count = note_all(
+                list,
+                count,
+                pair,
+                bus.pointer,
+                all,
+                &before,
+                memory,
+                first,
+                last,
+            );
+            Gone {
+                registers: done.registers,
+                count,
+            }
+        }
+        Err(_) => Gone {
+            registers: done.registers,
             count,
-            pair,
-            bus.pointer,
-            all,
-            &before,
-            mem,
-            first,
-            last,
-        );
-        return Gone {
-            display: next,
-            bus: then,
-            count: noted,
-        };
-    }
-    Gone {
-        display: next,
-        bus: then,
-        count,
+        },
     }
 }

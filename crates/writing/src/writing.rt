@@ -3,10 +3,11 @@ ghost use Rattle.std.specs.Prelude.{◌≡◌};
 ghost use Rattle.image.specs.Door.{panel_of};
 ghost use Rattle.writing.specs.Writing.{writers_end, writers_bytes};
 
-use image::door::{Entry, count_entries, enter, keep, marked};
+use image::door::{count_entries, enter, keep, marked};
 use writers::list::list;
 
 // Every store of a log into a stretch of memory, four numbers each: the number. `counts` becomes place, entries.
+#[tactic(auto, unfolding(crate::specs::Writing::writers_bytes))]
 #[unsafe(no_mangle)]
 pub extern "C" fn t6963c_writers(
     columns: usize,
@@ -27,13 +28,22 @@ pub extern "C" fn t6963c_writers(
     let panel = marked(columns, lines, width, dual);
     let two = counts.len() == 2;
     match enter(panel, two, registers) {
-        Entry::State(state) => {
+        Ok(state) => {
             let listed = list(panel, state, memory, rom, log, first, last, entries);
-            let after = listed.registers;
-            keep(listed.number, after, registers);
-            count_entries(listed.number, listed.place, listed.count, counts);
-            listed.number
+            match listed.end {
+                Ok(()) => {
+                    keep(0, listed.registers, registers);
+                    count_entries(0, 0, listed.count, counts);
+                    0
+                }
+                Err(refused) => {
+                    let number = refused.refusal.number();
+                    keep(number, listed.registers, registers);
+                    count_entries(number, refused.place, listed.count, counts);
+                    number
+                }
+            }
         }
-        Entry::Refused(number) => number,
+        Err(refusal) => refusal.number(),
     }
 }

@@ -3,148 +3,88 @@
 // frame in XBM's order, and puts out its rows.
 #![tactic(auto)]
 
-ghost use Rattle.std.specs.Prelude.{◌≡◌, ◌+◌, ◌≤◌, length};
-ghost use Rattle.io.specs.Counts.{IsPrefixLen};
-
 use controller::run::{Ran, run_stopping};
 use display::frame::paint;
-use ground::bytes::lesser;
 use mirror::convert::convert;
 use output::{write_line, write_rows};
 use printed::fill::{character_rom, empty_memory};
 use printed::input::{panel_in, rest_in};
-use report::{STDERR_FILENO, STDOUT_FILENO, has_argument, put_field, read_rom, read_whole, report};
+use report::{has_argument, read_rom, read_whole, report};
 use state::panel::Panel;
 use state::registers::Registers;
+use state::reply::number;
+use std::fmt;
+use std::io::Result;
 use std::rt::Env;
 
 // Bytes to a line.
 const ACROSS: usize = 12;
 
-// Whether all was written, and the number.
-#[derive(Clone, Copy)]
-struct Shown {
-    whole: bool,
-    number: u8,
-}
+// The bytes of a line as C has them, with commas between them.
+#[derive(Clone, Copy, Drop)]
+struct Line<'a>(&'a [u8]);
 
-fn hex_digit(low: u8) -> u8
-    requires { low ≤ 15 }
-{
-    if low < 10 { 48 + low } else { 87 + low }
-}
-
-// A byte as C has it, a comma and a blank.
-fn fill_byte(line: &mut [u8], at: usize, byte: u8)
-    requires { at + 6 ≤ length line.old }
-{
-    line[at] = b'0';
-    line[at + 1] = b'x';
-    line[at + 2] = hex_digit(byte / 16);
-    line[at + 3] = hex_digit(byte % 16);
-    line[at + 4] = b',';
-    line[at + 5] = b' ';
-}
-
-// What a line ends with: a comma, or the last one's brace over it; and where it ends.
-fn fill_end(line: &mut [u8], at: usize, last: bool) -> usize
-    requires { (2 ≤ at) × (at + 2 ≤ length line.old) }
-    ensures { IsPrefixLen result line.new }
-{
-    if last {
-        line[at - 2] = b' ';
-        line[at - 1] = b'}';
-        line[at] = b';';
-        line[at + 1] = b'\n';
-        return at + 2;
+impl fmt::Display for Line<'_> {
+    fn fmt<W: fmt::Write>(&self, f: &mut fmt::Formatter<W>) -> fmt::Result {
+        let mut between = "  ";
+        for byte in self.0 {
+            write!(f, "{between} 0x{byte:02x}")?;
+            between = ",";
+        }
+        Ok(())
     }
-    line[at - 1] = b'\n';
-    at
 }
 
-// At most twelve bytes on a line, and where it ends.
-fn fill_bytes(bytes: &[u8], last: bool, line: &mut [u8]) -> usize
-    requires { length line.old ≡ 80 }
-    ensures { IsPrefixLen result line.new }
-{
-    let count = lesser(bytes.len(), ACROSS);
-    for j in 0..count {
-        fill_byte(line, 3 + 6 * j, bytes[j]);
+// All bytes of a frame, line after line, the closing brace behind the last one.
+fn put_all(rt: HostRuntime, frame: &[u8]) -> Result<()> {
+    for (i, bytes) in frame.chunks(ACROSS).enumerate() {
+        let before = if i == 0 { "" } else { ",\n" };
+        print!(rt; "{before}{}", Line(bytes))?;
     }
-    fill_end(line, 3 + 6 * count, last)
+    println!(rt; " }};")
 }
 
-fn put_bytes(bytes: &[u8], last: bool) -> bool {
-    let mut line = [b' '; 80];
-    let end = fill_bytes(bytes, last, &mut line);
-    io::write_all(STDOUT_FILENO, &line[..end])
-}
-
-// All bytes of a frame, line after line.
-fn put_all(frame: &[u8]) -> bool {
-    let mut whole = true;
-    let mut at: usize = 0;
-    while at < frame.len() {
-        let next = at + lesser(ACROSS, frame.len() - at);
-        let put = put_bytes(&frame[at..next], next == frame.len());
-        whole = whole & put;
-        at = next;
-    }
-    whole
-}
-
-fn put_size(name: &[u8], dots: usize) -> bool {
-    put_field(name, dots) & io::write_all(STDOUT_FILENO, b"\n")
-}
-
-// The dots of a row: a valid panel has at most eighty columns.
-fn dots_across(columns: usize, width: usize) -> usize {
-    let few = lesser(columns, 80);
-    if width == 6 {
-        return 6 * few;
-    }
-    8 * few
-}
-
-// A frame in XBM's order, as C source.
-fn put_xbm(panel: Panel, frame: &[u8]) -> bool {
-    let wide = put_size(
-        b"#define frame_width ",
-        dots_across(panel.columns, panel.width),
-    );
-    let high = put_size(b"#define frame_height ", 8 * lesser(panel.lines, 32));
-    let named = io::write_all(STDOUT_FILENO, b"static unsigned char frame_bits[] = {\n");
-    wide & high & named & put_all(frame)
+// A frame in XBM's order, as C source. A valid panel has at most eighty columns of eight dots, and 32 lines.
+fn put_xbm(rt: HostRuntime, panel: Panel, frame: &[u8]) -> Result<()> {
+    let across = panel.columns.min(80) * panel.width.min(8);
+    let down = 8 * panel.lines.min(32);
+    println!(rt; "#define frame_width {across}")?;
+    println!(rt; "#define frame_height {down}")?;
+    println!(rt; "static unsigned char frame_bits[] = {{")?;
+    put_all(rt, frame)
 }
 
 // The frame painted and converted, then put out.
 fn put_frame(
+    rt: HostRuntime,
     panel: Panel,
     registers: Registers,
     memory: &[u8],
     rom: &[u8],
-    frame: &mut [u8],
-) -> bool {
-    paint(panel, registers, memory, rom, frame);
-    convert(panel, frame);
-    put_xbm(panel, frame)
+) -> Result<()> {
+    let size = panel.frame_size();
+    let mut room = [0u8; 20480];
+    let frame = &mut room[..size];
+    let _ = paint(panel, registers, memory, rom, frame);
+    let _ = convert(panel, frame);
+    put_xbm(rt, panel, frame)
 }
 
-fn put_line(fd: i32, ran: Ran) -> bool {
-    write_line(fd, ran.taken, ran.answers, ran.number, ran.place)
+fn put_line(to: &impl Print, ran: Ran) -> Result<()> {
+    write_line(to, ran.taken, ran.answers, ran.number, ran.place)
 }
 
 // A refusal behind which there is a frame, told to whoever gave a ROM.
-fn tell(rt: HostRuntime, ran: Ran) -> bool {
+fn tell(rt: HostRuntime, ran: Ran) -> Result<()> {
     if (ran.number != 0) & has_argument(&rt, 1) {
-        put_line(STDERR_FILENO, ran)
+        put_line(&rt.stderr(), ran)
     } else {
-        true
+        Ok(())
     }
 }
 
 // The frame after the run; on refusals 1 and 8 the line only.
-fn show(rt: HostRuntime, rom: &[u8], input: &[u8]) -> Shown {
+fn show(rt: HostRuntime, rom: &[u8], input: &[u8]) -> Result<u8> {
     let panel = panel_in(input, has_argument(&rt, 2));
     let log = rest_in(input, 3);
     let mut memory = empty_memory();
@@ -160,66 +100,41 @@ fn show(rt: HostRuntime, rom: &[u8], input: &[u8]) -> Shown {
         &mut answers,
     );
     if (ran.number == 1) | (ran.number == 8) {
-        let put = put_line(STDOUT_FILENO, ran);
-        return Shown {
-            whole: put,
-            number: ran.number,
-        };
+        put_line(&rt, ran)?;
+        return Ok(ran.number);
     }
+    // where standard error can't be written the frame is put out all the same
     let told = tell(rt, ran);
-    let after = ran.registers;
-    let size = panel.frame_size();
-    let mut frame = [0u8; 20480];
-    let put = put_frame(panel, after, &memory, rom, &mut frame[..size]);
-    Shown {
-        whole: told & put,
-        number: ran.number,
-    }
+    put_frame(rt, panel, ran.registers, &memory, rom)?;
+    told?;
+    Ok(ran.number)
 }
 
-fn show_log(rt: HostRuntime) {
+// Its own in each program: the room's length and what is shown differ, and a closure would be no plainer.
+// The log run and its frame shown: the run's refusal number.
+fn show_log(rt: HostRuntime) -> Result<u8> {
     let mut rom = character_rom();
-    if !read_rom(&mut rt.stdin(), has_argument(&rt, 1), &mut rom) {
-        return;
-    }
+    read_rom(&mut rt.stdin(), has_argument(&rt, 1), &mut rom)?;
     let mut input = [0u8; 16387];
-    let got = read_whole(&mut rt.stdin(), &mut input);
-    if got.failed {
-        return;
-    }
-    let end = got.count;
-    let shown = show(rt, &rom, &input[..end]);
-    if shown.whole {
-        report(shown.number);
-    }
+    let end = read_whole(&mut rt.stdin(), &mut input)?;
+    show(rt, &rom, &input[..end])
 }
 
-// A frame in XBM's order converted back, and its rows; none where it is refused. More than 16 lines are two halves.
-fn turn_back(input: &[u8], frame: &mut [u8]) -> Shown {
-    let panel = panel_in(input, input.len() > 1 && input[1] > 16);
-    let reply = convert(panel, frame);
-    let put = reply.number != 0 || write_rows(panel, frame);
-    Shown {
-        whole: put,
-        number: reply.number,
-    }
-}
-
-// The panel, then the frame, and one byte more to see that it is too long.
-fn show_back(rt: HostRuntime) {
+// A frame in XBM's order converted back, and its rows; none where it is refused. More than 16 lines are two halves. One byte more is read
+// to see that a frame is too long.
+fn show_back(rt: HostRuntime) -> Result<u8> {
+    // what was not read is 0, as a missing byte counts
     let mut head = [0u8; 3];
-    let mut frame = [0u8; 20481];
-    let first = read_whole(&mut rt.stdin(), &mut head);
-    let got = read_whole(&mut rt.stdin(), &mut frame);
-    if first.failed | got.failed {
-        return;
+    read_whole(&mut rt.stdin(), &mut head)?;
+    let mut room = [0u8; 20481];
+    let end = read_whole(&mut rt.stdin(), &mut room)?;
+    let frame = &mut room[..end];
+    let panel = panel_in(&head, head[1] > 16);
+    let converted = convert(panel, frame);
+    if converted.is_ok() {
+        write_rows(&rt, panel, frame)?;
     }
-    let short = first.count;
-    let end = got.count;
-    let shown = turn_back(&head[..short], &mut frame[..end]);
-    if shown.whole {
-        report(shown.number);
-    }
+    Ok(number(converted))
 }
 
 // Whether the first argument is `back`.
@@ -232,9 +147,12 @@ fn asked_back(rt: HostRuntime) -> bool {
 }
 
 fn main(rt: HostRuntime) {
-    if asked_back(rt) {
-        show_back(rt);
+    let shown = if asked_back(rt) {
+        show_back(rt)
     } else {
-        show_log(rt);
+        show_log(rt)
+    };
+    if let Ok(number) = shown {
+        report(number);
     }
 }

@@ -4,7 +4,7 @@ use Rattle.printed.proofs.Pieces.{answers-within}
 use Rattle.output.proofs.write_answers.Goals as goal
 
 pub slice_bounds-out-end : goal.slice_bounds-out-end
-slice_bounds-out-end c = answers-within _ _ _ c.print_answers-end.ensures
+slice_bounds-out-end g c = answers-within _ _ _ c.print_answers-end.ensures
 
 pub slice_bounds-write_all-end : goal.slice_bounds-write_all-end
-slice_bounds-write_all-end c = sym (length-take-le _ _ (answers-within _ _ _ c.print_answers-end.ensures))
+slice_bounds-write_all-end g c = sym (length-take-le _ _ (answers-within _ _ _ c.print_answers-end.ensures))

@@ -5,13 +5,13 @@ use Rattle.write.proofs.Writings.{output-within, error-within}
 use Rattle.write.proofs.main.Goals as goal
 
 pub slice_bounds-out-end : goal.slice_bounds-out-end
-slice_bounds-out-end c = output-within _ _ _ _ c.write_both-given.ensures
+slice_bounds-out-end c = output-within _ _ _ _ c.in-Ok-write_both.ensures
 
-pub slice_bounds-write_all-end : goal.slice_bounds-write_all-end
-slice_bounds-write_all-end c = sym (length-take-le _ _ (output-within _ _ _ _ c.write_both-given.ensures))
+pub slice_bounds-give-end : goal.slice_bounds-give-end
+slice_bounds-give-end c = sym (length-take-le _ _ (output-within _ _ _ _ c.in-Ok-write_both.ensures))
 
-pub slice_bounds-error-end : goal.slice_bounds-error-end
-slice_bounds-error-end c = error-within _ _ _ _ c.write_both-given.ensures
+pub slice_bounds-error-end-in-Err : goal.slice_bounds-error-end-in-Err
+slice_bounds-error-end-in-Err c = error-within _ _ _ _ c.in-Err.ensures
 
-pub slice_bounds-write_all-end-then-write_all : goal.slice_bounds-write_all-end-then-write_all
-slice_bounds-write_all-end-then-write_all c = sym (length-take-le _ _ (error-within _ _ _ _ c.write_both-given.ensures))
+pub slice_bounds-give-end-in-Err-2 : goal.slice_bounds-give-end-in-Err-2
+slice_bounds-give-end-in-Err-2 c = sym (length-take-le _ _ (error-within _ _ _ _ c.in-Err.ensures))

@@ -3,5 +3,5 @@ use Rattle.book.proofs.Readings.{glyph-read}
 use Rattle.book.proofs.operation.read_glyph.Goals as goal
 
 pub returns : goal.returns
-returns c = let a = c.args in
-    glyph-read a.panel a.book.now a.at a.end c.byte_at-code.ensures c.whole.ensures
+returns c = let a = c.args.here.now in
+    glyph-read a.panel a.book.now a.at a.end c.byte-code.ensures c.whole.ensures

@@ -1,12 +1,10 @@
 -- `whole` meets its contract: what is left of the body is compared, so that no sum can wrap.
-use Rattle.book.proofs.Readings.{is_whole, not-whole, fits_whole}
+use native.Mathlib.Omega.{arith}
+use Rattle.book.proofs.Readings.{is_whole, not-whole}
 use Rattle.book.proofs.operation.whole.Goals as goal
 
-pub overflow_add-result : goal.overflow_add-result
-overflow_add-result c = fits_whole c.requires c.args.size c.args.ranged c.if-size-end.true c.ranges.end.fits
+pub returns-then-size-here : goal.returns-then-size-here
+returns-then-size-here c = let h = c.args.here.now in is_whole (omega (arith, h.begins)) _ _ _ c.if-size-here.true
 
-pub returns-then-size-end : goal.returns-then-size-end
-returns-then-size-end c = is_whole c.requires _ _ _ c.if-size-end.true
-
-pub returns-else-size-end : goal.returns-else-size-end
-returns-else-size-end c = not-whole c.requires _ _ _ c.if-size-end.false
+pub returns-else-size-here : goal.returns-else-size-here
+returns-else-size-here c = let h = c.args.here.now in not-whole {at = h.at} {end = h.end} (omega (arith, h.begins)) _ _ _ c.if-size-here.false

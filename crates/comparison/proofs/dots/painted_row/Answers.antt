@@ -17,4 +17,4 @@ returns c = let a = c.args in
     let v = c.requires in
     let h = row-size-few a.panel v.panel c.row_size-size.ensures in
     let l = length-take-le c.row_size-size.result c.blank_row-out.result (omega (arith, h, c.blank_row-out.ensures)) in
-    record { result_value = row_first a.panel a.display a.mem.now a.rom.now a.row v _ _ (l ∙ is-size a.panel v.panel c.row_size-size.ensures) c.paint_one.ensures; value = c.blank_row-out.ensures ∙ sym (length_front c.blank_row-out.result c.paint_one.new.out c.row_size-size.result c.paint_one.auto.out) }
+    record { result_value = row_first a.panel a.display a.mem.now a.rom.now a.row v _ _ (l ∙ is-size a.panel v.panel c.row_size-size.ensures) c.paint_one.ensures.answer; value = c.blank_row-out.ensures ∙ sym (length_front c.blank_row-out.result c.paint_one.new.out c.row_size-size.result c.paint_one.auto.out) }

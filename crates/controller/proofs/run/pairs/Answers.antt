@@ -1,11 +1,11 @@
 -- `pairs` meets its contract: what is left from here always comes to the whole.
 use borrow.Author.Tests.{eqb-true}
 use native.Mathlib.Omega.{arith}
-use mathlib.Core.Path.{refl, sym, ◌∙◌}
+use mathlib.Core.Path.{refl, ◌∙◌}
 use Rattle.ground.proofs.Tests.{both_left}
 use Rattle.controller.specs.Ready.{standing}
 use Rattle.controller.proofs.Blocks.{block-moves, nearer}
-use Rattle.controller.proofs.Pairwise.{running, running-ends, going-runs, going_on, going-stops, going-block, going-kept, going-held, going-pushes, going-tells, going-draws, going-leaves, going-asks, going-ticks}
+use Rattle.controller.proofs.Pairwise.{running, running-ends, going-runs, going_on, going-stops, turned-here, going-block, going-kept, going-held, going-pushes, going-tells, going-draws, going-leaves, going-asks, going-ticks}
 use Rattle.controller.proofs.Laws.{sounds}
 use Rattle.controller.proofs.Readied.{runs-lengths}
 use Rattle.controller.proofs.run.pairs.Goals as goal
@@ -47,23 +47,11 @@ loop-i-smaller-then-kind-off c = nearer c.loop-i-test.true
 pub loop-i-preserved-then-kind-off : goal.loop-i-preserved-then-kind-off
 loop-i-preserved-then-kind-off c = going-pushes c.loop-i.invariant c.loop-i-test.true c.requires.total_in_bounds c.is_off-off.ensures c.if-kind-off.true c.datum-bus.ensures
 
-pub overflow_add-i-then-told : goal.overflow_add-i-then-told
-overflow_add-i-then-told c = omega (arith, c.loop-i-test.true, c.requires.total_in_bounds, c.well_formed)
-
-pub loop-i-smaller-then-told : goal.loop-i-smaller-then-told
-loop-i-smaller-then-told c = nearer c.loop-i-test.true
-
 pub loop-i-preserved-then-told : goal.loop-i-preserved-then-told
 loop-i-preserved-then-told c = going-tells c.loop-i.invariant c.loop-i-test.true c.requires.total_in_bounds c.is_off-off.ensures c.tell-told.ensures c.if-told.true
 
-pub overflow_add-i-then-drawn : goal.overflow_add-i-then-drawn
-overflow_add-i-then-drawn c = omega (arith, c.loop-i-test.true, c.requires.total_in_bounds, c.well_formed)
-
-pub loop-i-smaller-then-drawn : goal.loop-i-smaller-then-drawn
-loop-i-smaller-then-drawn c = nearer c.loop-i-test.true
-
-pub loop-i-preserved-then-drawn : goal.loop-i-preserved-then-drawn
-loop-i-preserved-then-drawn c = going-draws (going-kept c.loop-i.invariant (c.tell-told.ensures.keeps c.if-told.false)) c.loop-i-test.true c.requires.total_in_bounds c.is_off-off.ensures c.draw-drawn.ensures c.if-drawn.true c.emptied-bus.ensures
+pub loop-i-preserved-in-Some : goal.loop-i-preserved-in-Some
+loop-i-preserved-in-Some c = going-draws (going-kept c.loop-i.invariant (c.tell-told.ensures.keeps c.if-told.false)) c.loop-i-test.true c.requires.total_in_bounds c.is_off-off.ensures c.draw.ensures c.in-Some.is c.emptied-bus.ensures
 
 pub overflow_add-i-then-kind-byte : goal.overflow_add-i-then-kind-byte
 overflow_add-i-then-kind-byte c = omega (arith, c.loop-i-test.true, c.requires.total_in_bounds, c.well_formed)
@@ -74,14 +62,8 @@ loop-i-smaller-then-kind-byte c = nearer c.loop-i-test.true
 pub loop-i-preserved-then-kind-byte : goal.loop-i-preserved-then-kind-byte
 loop-i-preserved-then-kind-byte c = going-leaves (going-kept c.loop-i.invariant (c.tell-told.ensures.keeps c.if-told.false)) c.loop-i-test.true c.requires.total_in_bounds c.if-kind-byte.true c.freed-bus.ensures
 
-pub overflow_add-i-then-asked : goal.overflow_add-i-then-asked
-overflow_add-i-then-asked c = omega (arith, c.loop-i-test.true, c.requires.total_in_bounds, c.well_formed)
-
-pub loop-i-smaller-then-asked : goal.loop-i-smaller-then-asked
-loop-i-smaller-then-asked c = nearer c.loop-i-test.true
-
-pub loop-i-preserved-then-asked : goal.loop-i-preserved-then-asked
-loop-i-preserved-then-asked c = going-asks (going-kept c.loop-i.invariant (c.tell-told.ensures.keeps c.if-told.false)) c.loop-i-test.true c.requires.total_in_bounds c.ask-asked.ensures c.if-asked.true
+pub loop-i-preserved-in-Some-ask : goal.loop-i-preserved-in-Some-ask
+loop-i-preserved-in-Some-ask c = going-asks (going-kept c.loop-i.invariant (c.tell-told.ensures.keeps c.if-told.false)) c.loop-i-test.true c.requires.total_in_bounds c.ask.ensures c.in-Some-ask.is
 
 pub overflow_add-i-then-kind-eq4 : goal.overflow_add-i-then-kind-eq4
 overflow_add-i-then-kind-eq4 c = omega (arith, c.loop-i-test.true, c.requires.total_in_bounds, c.well_formed)
@@ -90,39 +72,19 @@ pub loop-i-smaller-then-kind-eq4 : goal.loop-i-smaller-then-kind-eq4
 loop-i-smaller-then-kind-eq4 c = nearer c.loop-i-test.true
 
 pub loop-i-preserved-then-kind-eq4 : goal.loop-i-preserved-then-kind-eq4
-loop-i-preserved-then-kind-eq4 c = going-ticks (going-held (going-kept c.loop-i.invariant (c.tell-told.ensures.keeps c.if-told.false)) (c.ask-asked.ensures.keeps c.if-asked.false)) c.loop-i-test.true c.requires.total_in_bounds c.if-kind-eq4.true c.ticked-display.ensures
-
-pub shape_of-mem-then-number-ne0 : goal.shape_of-mem-then-number-ne0
-shape_of-mem-then-number-ne0 c = omega (arith, c.loop-i.invariant.goes_on.sound.sound.memory, (runs-lengths c.requires.runs).0, c.turn-turned.auto.mem, c.tell-told.auto.mem)
-
-pub shape_of-answers-then-number-ne0 : goal.shape_of-answers-then-number-ne0
-shape_of-answers-then-number-ne0 c = omega (arith, c.loop-i.invariant.goes_on.room, c.turn-turned.auto.answers, c.ask-asked.auto.answers)
-
-pub shape_of-skips-then-number-ne0 : goal.shape_of-skips-then-number-ne0
-shape_of-skips-then-number-ne0 c = omega (arith, c.loop-i.invariant.goes_on.sound.long, c.note-noted.auto.skips)
+loop-i-preserved-then-kind-eq4 c = going-ticks (going-held (going-kept c.loop-i.invariant (c.tell-told.ensures.keeps c.if-told.false)) c.ask.ensures c.in_default-ask.is) c.loop-i-test.true c.requires.total_in_bounds c.if-kind-eq4.true c.ticked-display.ensures
 
 pub returns-then-number-ne0 : goal.returns-then-number-ne0
-returns-then-number-ne0 c = let g = going-held (going-kept c.loop-i.invariant (c.tell-told.ensures.keeps c.if-told.false)) (c.ask-asked.ensures.keeps c.if-asked.false) in
-    going-stops g c.loop-i-test.true c.requires.total_in_bounds (going-runs g _ _ refl c.requires.runs.panel (runs-lengths c.requires.runs).1) c.turn-turned.ensures c.note-noted.ensures c.if-number-ne0.true c.ended.ensures
-
-pub overflow_add-i-in-loop-i : goal.overflow_add-i-in-loop-i
-overflow_add-i-in-loop-i c = omega (arith, c.loop-i-test.true, c.requires.total_in_bounds, c.well_formed)
-
-pub loop-i-smaller : goal.loop-i-smaller
-loop-i-smaller c = nearer c.loop-i-test.true
+returns-then-number-ne0 c = let g = going-held (going-kept c.loop-i.invariant (c.tell-told.ensures.keeps c.if-told.false)) c.ask.ensures c.in_default-ask.is in
+    let k = going-runs g _ _ refl c.requires.runs.panel (runs-lengths c.requires.runs).1 in
+    let e = c.turn-turned.ensures ∙ turned-here g c.loop-i-test.true c.requires.total_in_bounds k in
+    going-stops g c.loop-i-test.true c.requires.total_in_bounds e c.note-noted.ensures c.if-number-ne0.true c.ended.ensures
 
 pub loop-i-preserved : goal.loop-i-preserved
-loop-i-preserved c = let g = going-held (going-kept c.loop-i.invariant (c.tell-told.ensures.keeps c.if-told.false)) (c.ask-asked.ensures.keeps c.if-asked.false) in
-    going_on g c.loop-i-test.true c.requires.total_in_bounds (going-runs g _ _ refl c.requires.runs.panel (runs-lengths c.requires.runs).1) c.turn-turned.ensures c.note-noted.ensures c.if-number-ne0.false
-
-pub shape_of-mem : goal.shape_of-mem
-shape_of-mem c = c.loop-i.invariant.goes_on.sound.sound.memory ∙ sym (runs-lengths c.requires.runs).0
-
-pub shape_of-answers : goal.shape_of-answers
-shape_of-answers c = c.loop-i.invariant.goes_on.room
-
-pub shape_of-skips : goal.shape_of-skips
-shape_of-skips c = c.loop-i.invariant.goes_on.sound.long
+loop-i-preserved c = let g = going-held (going-kept c.loop-i.invariant (c.tell-told.ensures.keeps c.if-told.false)) c.ask.ensures c.in_default-ask.is in
+    let k = going-runs g _ _ refl c.requires.runs.panel (runs-lengths c.requires.runs).1 in
+    let e = c.turn-turned.ensures ∙ turned-here g c.loop-i-test.true c.requires.total_in_bounds k in
+    going_on g c.loop-i-test.true c.requires.total_in_bounds e c.note-noted.ensures c.if-number-ne0.false
 
 pub returns : goal.returns
 returns c = running-ends c.loop-i.invariant c.loop-i-test.false c.ended-2.ensures

@@ -2,17 +2,17 @@
 use Rattle.difference.proofs.Shorts.{short-first, short-second, short-third, short-fourth, short-all}
 use Rattle.difference.proofs.changes.put_short.Goals as goal
 
-pub put_changes-a-requires : goal.put_changes-a-requires
-put_changes-a-requires c = short-first c.requires
+pub put_changes-requires : goal.put_changes-requires
+put_changes-requires c = short-first c.requires
 
-pub put_changes-b-requires : goal.put_changes-b-requires
-put_changes-b-requires c = short-second c.requires c.put_changes-a.ensures c.text_home-home.ensures
+pub put_changes-requires-2 : goal.put_changes-requires-2
+put_changes-requires-2 c = short-second c.requires c.put_changes.ensures c.text_home.ensures
 
-pub put_changes-c-requires : goal.put_changes-c-requires
-put_changes-c-requires c = short-third c.requires c.put_changes-a.ensures c.text_home-home.ensures c.put_changes-b.ensures
+pub put_changes-requires-3 : goal.put_changes-requires-3
+put_changes-requires-3 c = short-third c.requires c.put_changes.ensures c.text_home.ensures c.put_changes-2.ensures
 
 pub put_end-requires : goal.put_end-requires
-put_end-requires c = short-fourth c.requires c.put_changes-a.ensures c.text_home-home.ensures c.put_changes-b.ensures c.put_changes-c.ensures
+put_end-requires c = short-fourth c.requires c.put_changes.ensures c.text_home.ensures c.put_changes-2.ensures c.put_changes-3.ensures
 
 pub returns : goal.returns
-returns c = short-all c.requires c.put_changes-a.ensures c.text_home-home.ensures c.put_changes-b.ensures c.put_changes-c.ensures c.put_end.ensures
+returns c = short-all c.requires c.put_changes.ensures c.text_home.ensures c.put_changes-2.ensures c.put_changes-3.ensures c.put_end.ensures

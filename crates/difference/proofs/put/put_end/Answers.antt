@@ -1,18 +1,21 @@
 -- `put_end` meets its contract: the mode, then the end by whether there is a cursor.
+use mathlib.Core.Path.{ap}
+use mathlib.Core.List.{[], ◌∷◌}
+use native.Mathlib.Omega.{arith}
+use Rattle.picture.specs.Laid.{laid}
+use Rattle.writer.proofs.Puts.{put-pairs-as}
 use Rattle.difference.proofs.Ends.{ending-first, ending-none, ending-over, end_none, end-over}
 use Rattle.difference.proofs.put.put_end.Goals as goal
 
-pub put_pair-a-requires : goal.put_pair-a-requires
-put_pair-a-requires c = ending-first c.requires
+pub returns-in-None : goal.returns-in-None
+returns-in-None c =
+    let mode = put-pairs-as (λ i. c.command.ensures i ∷ []) (c.add.ensures.room (ending-first c.requires)) in
+    end_none c.requires mode c.args.style.combination c.combination_code.ensures (ap laid c.in-None.is)
+    (put-pairs-as (λ i. c.command-in-None.ensures i ∷ []) (c.add-in-None.ensures.room (ending-none c.requires mode)))
 
-pub put_pair-requires : goal.put_pair-requires
-put_pair-requires c = ending-none c.requires c.put_pair-a.ensures
-
-pub put_cursor-requires : goal.put_cursor-requires
-put_cursor-requires c = ending-over c.requires c.put_pair-a.ensures c.in-Over.is
-
-pub returns-in-Nowhere : goal.returns-in-Nowhere
-returns-in-Nowhere c = end_none c.requires c.put_pair-a.ensures c.args.combination c.combination_code.ensures c.in-Nowhere.is c.put_pair.ensures
-
-pub returns-in-Over : goal.returns-in-Over
-returns-in-Over c = end-over c.requires c.put_pair-a.ensures c.args.combination c.combination_code.ensures c.in-Over.is c.put_cursor.ensures
+pub returns-in-Some : goal.returns-in-Some
+returns-in-Some c =
+    let mode = put-pairs-as (λ i. c.command.ensures i ∷ []) (c.add.ensures.room (ending-first c.requires)) in
+    let k = ending-over c.requires mode (ap laid c.in-Some.is) in
+    end-over c.requires mode c.args.style.combination c.combination_code.ensures (ap laid c.in-Some.is)
+    (put-pairs-as (c.cursor.ensures k.valid k.range) (c.add-in-Some.ensures.room (omega (arith, k.fits, c.cursor.type_inv))))

@@ -1,12 +1,15 @@
 -- `write_between` meets its contract: the planes of screen b, then the short stream to them.
-use Rattle.difference.proofs.Screens.{between-refused, between-ready, between-written}
+use Rattle.std.proofs.lemmas.Result.{err_from_is_err_and}
+use Rattle.difference.proofs.Screens.{between-err, between-ready, between-written}
 use Rattle.difference.proofs.write.write_between.Goals as goal
 
-pub returns-then-new-ne0 : goal.returns-then-new-ne0
-returns-then-new-ne0 c = between-refused c.args.panel c.args.book.now c.args.b c.requires.planes_for_2 c.planes-new.ensures c.args.room.now c.requires.planes_for c.if-new-ne0.true
+pub returns-in_err-style-clause-value : goal.returns-in_err-style-clause-value
+returns-in_err-style-clause-value c = let a = c.args in
+    let p = err_from_is_err_and c.from_residual.result c.from_residual.ensures.1 in
+    rw (p.1, p.2) (between-err a.panel a.book.now a.b c.requires.planes_for_2 _ c.in_err-style.ensures.planned a.room.now a.old)
 
 pub write_short-requires : goal.write_short-requires
-write_short-requires c = between-ready c.args.panel c.args.book.now c.args.b c.requires.planes_for_2 c.planes-new.ensures c.args.room.now c.requires.planes_for c.if-new-ne0.false
+write_short-requires c = let a = c.args in between-ready a.panel a.book.now a.b c.requires.planes_for_2 _ c.in_ok-style.ensures.planned a.old c.requires.planes_for
 
-pub returns : goal.returns
-returns c = between-written c.args.panel c.args.book.now c.args.b c.requires.planes_for_2 c.planes-new.ensures c.args.room.now c.requires.planes_for c.if-new-ne0.false c.write_short.ensures
+pub returns-clause-value : goal.returns-clause-value
+returns-clause-value c = let a = c.args in between-written a.panel a.book.now a.b c.requires.planes_for_2 _ c.in_ok-style.ensures.planned a.room.now a.old c.write_short.ensures.value

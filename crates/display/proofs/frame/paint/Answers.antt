@@ -6,8 +6,8 @@ use Rattle.display.proofs.Flagged.{ones-many, painted-all}
 use Rattle.display.proofs.frame.paint.Goals as goal
 
 pub slice_bounds-paint_flagged-end : goal.slice_bounds-paint_flagged-end
-slice_bounds-paint_flagged-end c = sym (ones-many 256 (8 * c.lesser-rows.result) (omega (arith, c.lesser-rows.ensures)))
+slice_bounds-paint_flagged-end c = sym (ones-many 256 (8 * c.min-rows.result) (omega (arith, c.min-rows.ensures)))
 
-pub returns : goal.returns
-returns c = let a = c.args in
-    painted-all a.panel a.registers a.mem.now a.rom.now a.frame.now c.lesser-rows.result c.lesser-rows.ensures c.paint_flagged.ensures
+pub returns-clause-answer : goal.returns-clause-answer
+returns-clause-answer c = let a = c.args in
+    painted-all a.panel a.registers a.mem.now a.rom.now a.frame.now c.min-rows.result c.min-rows.ensures c.paint_flagged.ensures.answer

@@ -5,8 +5,8 @@ use lib.ListN.{length}
 use Rattle.display.proofs.Flagged.{Flagging}
 use Rattle.display.proofs.frame.paint_some.Given as goal
 
-abbrev pub invariant-loop-next : goal.invariant-loop-next
-invariant-loop-next l = (length l.cells ≡ 80) × Flagging l.panel l.display l.mem l.rom l.first l.bytes l.flags l.initial.out l.out l.next
+abbrev pub invariant-loop-i : goal.invariant-loop-i
+invariant-loop-i l = (length l.cells ≡ 80) × Flagging l.fn.panel l.fn.display l.mem l.rom l.first l.bytes l.flags l.initial.out l.out l.i
 
-abbrev pub decreases-loop-next : goal.decreases-loop-next
-decreases-loop-next l = length l.flags - l.next
+abbrev pub decreases-loop-i : goal.decreases-loop-i
+decreases-loop-i l = length l.flags - l.i

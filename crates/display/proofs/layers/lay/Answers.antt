@@ -8,6 +8,7 @@ use Rattle.display.proofs.layers.lay.Goals as goal
 
 pub returns : goal.returns
 returns c = let a = c.args in
-    let text : ℕ → ℕ = λ j. text_dots a.panel a.display a.mem.now a.font.now a.row (a.column + j) in
-    let shown : ℕ → ℕ = λ j. displayed_byte a.panel a.display a.mem.now a.font.now a.row (a.column + j) in
-    record { text_after = front_of text (length a.shown.now) _ a.text.now c.lay_text.ensures c.requires.text_in_bounds c.give.ensures; graphic_after = c.give_graphic.ensures; shown_after = same_count text shown a.shown.now c.lay_text.new.cells refl c.lay_text.ensures (c.lay_graphic.ensures a.font.now (own-count text (length a.shown.now) c.lay_text.ensures)) }
+    let s = a.scene.now in
+    let text : ℕ → ℕ = λ j. text_dots s.panel s.display s.mem.now s.font.now a.row (a.column + j) in
+    let shown : ℕ → ℕ = λ j. displayed_byte s.panel s.display s.mem.now s.font.now a.row (a.column + j) in
+    record { text_after = front_of text (length a.shown.now) _ a.text.now c.lay_text.ensures c.requires.text_in_bounds c.give.ensures; graphic_after = c.give_graphic.ensures; shown_after = same_count text shown a.shown.now c.lay_text.new.cells refl c.lay_text.ensures (c.lay_graphic.ensures s.font.now (own-count text (length a.shown.now) c.lay_text.ensures)) }

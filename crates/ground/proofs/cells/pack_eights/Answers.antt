@@ -1,24 +1,17 @@
--- `pack_eights` meets its contract: cell by cell.
-use Rattle.std.proofs.Common.{◌∙◌, arith}
-use Rattle.ground.proofs.Filling.{none_yet, as_long, one_more, at-end}
-use Rattle.ground.proofs.Packs.{row-built}
+-- `pack_eights` meets its contract: the cells are the bytes.
+use Rattle.std.proofs.Common.{◌≡◌, length, sym, ◌∙◌, arith, ext_get_or}
+use Rattle.ground.specs.Lists.{build}
+use Rattle.ground.specs.Packing.{row_bytes}
+use Rattle.ground.proofs.Lists.{build-length, build-at}
+use Rattle.ground.proofs.Packs.{byte_in, row-built}
 use Rattle.ground.proofs.Sixes.{whole-cell}
 use Rattle.ground.proofs.cells.pack_eights.Goals as goal
 
-pub loop-at-init : goal.loop-at-init
-loop-at-init c = none_yet _ _
-
-pub bounds-cells-at : goal.bounds-cells-at
-bounds-cells-at c = omega (arith, c.requires)
-
-pub bounds-out-at : goal.bounds-out-at
-bounds-out-at c = omega (arith, as_long _ _ c.loop-at.invariant)
-
-pub loop-at-preserved : goal.loop-at-preserved
-loop-at-preserved c = one_more _ _ c.loop-at.invariant c.loop-at-test.true (whole-cell c.args.cells.now c.loop-at.at (omega (arith, c.requires)) (omega (arith, c.type_inv.cells c.loop-at.at)))
-
-pub shape_of-out : goal.shape_of-out
-shape_of-out c = as_long _ _ c.loop-at.invariant
-
 pub returns : goal.returns
-returns c = at-end _ _ c.loop-at.invariant _ c.requires c.loop-at-test.false ∙ row-built 8 c.args.cells.now
+returns c = let cells = c.args.cells.now in
+    let n = row_bytes (length cells) 8 in
+    let e : length cells ≡ n = omega arith in
+    c.copy_from_slice.ensures.after
+    ∙ ext_get_or 0 cells (build n (byte_in 8 cells)) (e ∙ sym (build-length n (byte_in 8 cells)))
+    (λ i h. whole-cell cells i h (omega (arith, c.type_inv.cells i)) ∙ sym (build-at n (byte_in 8 cells) i 0 (omega (arith, e))))
+    ∙ row-built 8 cells

@@ -3,5 +3,5 @@ use Rattle.ground.specs.Lists.{round_byte}
 use Rattle.ground.proofs.Passes.{Passing}
 use Rattle.ground.proofs.stretches.read_round.Given as goal
 
-abbrev pub invariant-loop-j : goal.invariant-loop-j
-invariant-loop-j l = Passing (round_byte l.width l.mem l.start) l.start l.initial.out l.out l.at l.j
+abbrev pub invariant-loop-byte : goal.invariant-loop-byte
+invariant-loop-byte l = Passing (round_byte l.width l.mem l.start) l.start l.initial.out l.out l.at l.byte-index

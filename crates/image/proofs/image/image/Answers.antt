@@ -1,6 +1,6 @@
 -- `image` meets its contract, byte by byte.
-use Rattle.image.proofs.Images.{bytes-are}
+use Rattle.image.proofs.Images.{flagged, bytes-are}
 use Rattle.image.proofs.image.image.Goals as goal
 
 pub returns : goal.returns
-returns c = bytes-are c.args.registers c.combination_byte-combination.ensures c.flag_byte-external.ensures c.flag_byte-graphic.ensures c.flag_byte-text.ensures c.flag_byte-cursor.ensures c.flag_byte-blink.ensures c.auto_byte-auto.ensures c.flag_byte-error.ensures c.flag_byte-phase.ensures
+returns c = bytes-are c.args.registers c.from-combination.ensures (flagged _ c.from-external.ensures) (flagged _ c.from-graphic.ensures) (flagged _ c.from-text.ensures) (flagged _ c.from-cursor.ensures) (flagged _ c.from-blink.ensures) c.from-auto.ensures (flagged _ c.from-error.ensures) (flagged _ c.from-phase.ensures)

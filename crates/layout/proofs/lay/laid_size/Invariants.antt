@@ -1,10 +1,8 @@
--- `laid_size` meets its contract.
-use Prim.Native.Nat.{◌-◌}
+-- `laid_size` meets its contract: what is left of the screens comes to the whole.
+use lib.ListN.{drop}
+use Rattle.contents.specs.Replies.{bodies}
 use Rattle.layout.proofs.Sums.{Summing}
 use Rattle.layout.proofs.lay.laid_size.Given as goal
 
-abbrev pub invariant-loop-i : goal.invariant-loop-i
-invariant-loop-i l = Summing l.two l.spans l.size l.i
-
-abbrev pub decreases-loop-i : goal.decreases-loop-i
-decreases-loop-i l = l.count - l.i
+abbrev pub invariant-loop-span : goal.invariant-loop-span
+invariant-loop-span l = Summing l.two (bodies l.spans) l.size (bodies (drop l.span-index l.spans))

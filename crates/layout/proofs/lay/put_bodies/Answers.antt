@@ -1,29 +1,23 @@
--- `put_bodies` meets its contract: what is left of the bodies comes to the whole.
-use Rattle.layout.proofs.Sums.{bodies-starts, bodies-room, bodies-next, bodies-ends}
+-- `put_bodies` meets its contract: what is left of the screens comes to the whole.
+use mathlib.Core.Path.{ap, subst, ◌∙◌}
 use native.Mathlib.Omega.{arith}
+use Rattle.contents.specs.Contents.{first_body}
+use Rattle.contents.specs.Replies.{bodies}
+use Rattle.layout.proofs.Sums.{span-here, no_span-left, spans-count, BodiesPut, bodies-starts, bodies-room, bodies-next, bodies-ends}
 use Rattle.layout.proofs.lay.put_bodies.Goals as goal
 
-pub overflow_cast-count : goal.overflow_cast-count
-overflow_cast-count c = omega (arith, c.requires.spanned.few)
-
-pub loop-i-init : goal.loop-i-init
-loop-i-init c = bodies-starts c.requires c.first_body-at.ensures
+pub loop-span-init : goal.loop-span-init
+loop-span-init c = let s = c.args in
+    bodies-starts c.requires (c.first_body-at.ensures ∙ ap (first_body s.two) (spans-count s.spans.now))
 
 pub put_body-requires : goal.put_body-requires
-put_body-requires c = bodies-room c.requires c.loop-i.invariant c.loop-i-test.true
+put_body-requires c = let s = c.args in let l = c.loop-span in
+    bodies-room (subst (BodiesPut s.two (bodies s.spans.now) s.book.now s.out.now l.out l.at) (span-here s.spans.now l.span-index (omega arith)) l.invariant)
 
-pub overflow_sub-at : goal.overflow_sub-at
-overflow_sub-at c = (bodies-room c.requires c.loop-i.invariant c.loop-i-test.true).0
-
-pub overflow_add-at : goal.overflow_add-at
-overflow_add-at c = let r = bodies-room c.requires c.loop-i.invariant c.loop-i-test.true in
-    omega (arith, r.2)
-
-pub loop-i-preserved : goal.loop-i-preserved
-loop-i-preserved c = bodies-next c.requires c.loop-i.invariant c.loop-i-test.true c.put_body.ensures
-
-pub shape_of-out : goal.shape_of-out
-shape_of-out c = c.loop-i.invariant.putting.kept
+pub loop-span-preserved : goal.loop-span-preserved
+loop-span-preserved c = let s = c.args in let l = c.loop-span in
+    bodies-next (subst (BodiesPut s.two (bodies s.spans.now) s.book.now s.out.now l.out l.at) (span-here s.spans.now l.span-index (omega arith)) l.invariant) c.put_body.ensures
 
 pub returns : goal.returns
-returns c = bodies-ends c.requires c.loop-i.invariant c.loop-i-test.false
+returns c = let s = c.args in let l = c.loop-span in
+    bodies-ends (subst (BodiesPut s.two (bodies s.spans.now) s.book.now s.out.now l.out l.at) (no_span-left s.spans.now l.span-index (omega arith)) l.invariant)

@@ -1,10 +1,8 @@
--- `put_entries` meets its contract: what is left of the entries comes to the whole.
-use Prim.Native.Nat.{◌-◌}
+-- `put_entries` meets its contract: what is left of the screens comes to the whole.
+use lib.ListN.{drop}
+use Rattle.contents.specs.Replies.{bodies}
 use Rattle.layout.proofs.Sums.{EntriesPut}
 use Rattle.layout.proofs.lay.put_entries.Given as goal
 
-abbrev pub invariant-loop-i : goal.invariant-loop-i
-invariant-loop-i l = EntriesPut l.two l.spans l.initial.out l.out l.at l.start l.i
-
-abbrev pub decreases-loop-i : goal.decreases-loop-i
-decreases-loop-i l = l.count - l.i
+abbrev pub invariant-loop-span : goal.invariant-loop-span
+invariant-loop-span l = EntriesPut l.two (bodies l.spans) l.initial.out l.out l.at l.start (bodies (drop l.span-index l.spans))

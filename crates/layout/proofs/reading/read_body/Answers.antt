@@ -1,29 +1,28 @@
 -- `read_body` meets its contract: what is left of the body is read as the whole.
-use Rattle.layout.proofs.Uses.{reading-starts, reading-found, reading-on, reading-ends, reading-faulty}
+use mathlib.Core.Path.{refl, ap, sym, ◌∙◌}
+use Rattle.layout.specs.BodyRead.{reads_one}
+use Rattle.layout.proofs.Uses.{reading-starts, reading-found, reading-on, reading-ends, reading-faulty, uses-read}
 use native.Mathlib.Omega.{arith}
 use Rattle.layout.proofs.reading.read_body.Goals as goal
 
-pub loop-placed-init : goal.loop-placed-init
-loop-placed-init c = let s = c.args in
+pub loop-standing-init : goal.loop-standing-init
+loop-standing-init c = let s = c.args in
     reading-starts s.panel s.book.now s.start s.end
 
-pub loop-placed-smaller : goal.loop-placed-smaller
-loop-placed-smaller c = let s = c.args in
-    let k = reading-found s.panel s.book.now s.start s.end c.loop-placed.invariant c.read-found.ensures.value c.in-Operation.is in
+pub loop-standing-smaller : goal.loop-standing-smaller
+loop-standing-smaller c = let s = c.args in
+    let k = reading-found s.panel s.book.now s.start s.end c.loop-standing.invariant refl (sym (rw c.in-Ok-Some.field-0-is at c.in-Ok-Some.ensures.value)) in
     omega (arith, k.on, k.to_end)
 
-pub loop-placed-preserved : goal.loop-placed-preserved
-loop-placed-preserved c = let s = c.args in
-    reading-on s.panel s.book.now s.start s.end c.loop-placed.invariant c.read-found.ensures.value c.in-Operation.is c.is_and-uses.ensures
+pub loop-standing-preserved : goal.loop-standing-preserved
+loop-standing-preserved c = let s = c.args in
+    reading-on s.panel s.book.now s.start s.end c.loop-standing.invariant refl (sym (rw c.in-Ok-Some.field-0-is at c.in-Ok-Some.ensures.value)) c.is_and-uses.ensures
 
-pub returns-then-uses : goal.returns-then-uses
-returns-then-uses c = let s = c.args in
-    reading-ends s.panel s.book.now s.start s.end c.loop-placed.invariant c.read-found.ensures.value c.in-End.is c.if-uses.true
+pub returns-in-Ok-None : goal.returns-in-Ok-None
+returns-in-Ok-None c = let s = c.args in
+    uses-read c.loop-standing.uses
+    ∙ ap reads_one (reading-ends s.panel s.book.now s.start s.end c.loop-standing.invariant refl (sym (rw c.in-Ok-None.field-0-is at c.in-Ok-None.ensures.value)) refl)
 
-pub returns-in-End : goal.returns-in-End
-returns-in-End c = let s = c.args in
-    reading-ends s.panel s.book.now s.start s.end c.loop-placed.invariant c.read-found.ensures.value c.in-End.is c.if-uses.false
-
-pub returns-in-Faulty : goal.returns-in-Faulty
-returns-in-Faulty c = let s = c.args in
-    reading-faulty s.panel s.book.now s.start s.end c.loop-placed.invariant c.read-found.ensures.value c.in-Faulty.is
+pub returns-in-Err : goal.returns-in-Err
+returns-in-Err c = let s = c.args in
+    rw c.in-Err.ensures.refusal (ap reads_one (reading-faulty s.panel s.book.now s.start s.end c.loop-standing.invariant refl (sym c.in-Err.ensures.value)))

@@ -3,8 +3,8 @@ use Prim.Native.Nat.{◌-◌}
 use Rattle.layout.proofs.Uses.{BodyReading}
 use Rattle.layout.proofs.reading.read_body.Given as goal
 
-abbrev pub invariant-loop-placed : goal.invariant-loop-placed
-invariant-loop-placed l = BodyReading l.panel l.book l.start l.end l.at l.uses
+abbrev pub invariant-loop-standing : goal.invariant-loop-standing
+invariant-loop-standing l = BodyReading l.panel l.book l.start l.end l.at l.uses
 
-abbrev pub decreases-loop-placed : goal.decreases-loop-placed
-decreases-loop-placed l = l.end - l.at
+abbrev pub decreases-loop-standing : goal.decreases-loop-standing
+decreases-loop-standing l = l.end - l.at

@@ -3,8 +3,8 @@ use Prim.Native.Nat.{◌-◌}
 use Rattle.layout.proofs.Good.{GoodSoFar}
 use Rattle.layout.proofs.saving.good_end.Given as goal
 
-abbrev pub invariant-loop-next : goal.invariant-loop-next
-invariant-loop-next l = GoodSoFar l.panel l.book l.end l.start l.at
+abbrev pub invariant-loop-standing : goal.invariant-loop-standing
+invariant-loop-standing l = GoodSoFar l.panel l.book l.end l.start l.at
 
-abbrev pub decreases-loop-next : goal.decreases-loop-next
-decreases-loop-next l = l.end - l.at
+abbrev pub decreases-loop-standing : goal.decreases-loop-standing
+decreases-loop-standing l = l.end - l.at

@@ -8,7 +8,7 @@ use Rattle.log_program.proofs.print.print.Goals as goal
 pub put_ran-count-requires : goal.put_ran-count-requires
 put_ran-count-requires c = let s = c.args in
     let k = c.run_log-ran in
-    ready s.input.now c.panel_in-panel.ensures k.ensures (record { memory = k.auto.memory ∙ sym c.empty_memory-memory.ensures.value_2; characters = sym c.character_rom-rom.ensures.value_2; answered = k.auto.answers ∙ sym c.no_answers-answers.ensures.value_2; framed = length-replicate {0} {A = ℕ} 20480 0; roomy = c.if-out-eq196608.true })
+    ready s.input.now c.panel_in-panel.ensures k.ensures (record { memory = k.auto.memory ∙ sym c.empty_memory-memory.ensures.value_2; characters = sym c.character_rom-rom.ensures.value_2; answered = k.auto.answers ∙ sym c.zeroed-answers.ensures.size; framed = length-replicate {0} {A = ℕ} 20480 0; roomy = c.if-out-eq196608.true })
 
 pub returns-then-out-eq196608 : goal.returns-then-out-eq196608
 returns-then-out-eq196608 c = let s = c.args in

@@ -12,4 +12,4 @@ overflow_add-result c = let h = rows-within _ _ _ c.print_rows-lines.ensures in
     omega (arith, h, c.print_rows-lines.auto.out, length-take-le (length c.args.out.now - c.args.at) (drop c.args.at c.args.out.now) (rw length-drop (omega arith)), c.requires.room)
 
 pub returns : goal.returns
-returns c = frame-put c.requires c.paint.ensures c.print_rows-lines.ensures
+returns c = frame-put c.requires c.paint.ensures.answer c.print_rows-lines.ensures

@@ -3,5 +3,5 @@ use Rattle.ground.proofs.Filling.{Filled}
 use Rattle.mirror.proofs.Orders.{mirror_at}
 use Rattle.mirror.proofs.convert.mirror_bytes.Given as goal
 
-abbrev pub invariant-loop-i : goal.invariant-loop-i
-invariant-loop-i l = Filled (mirror_at l.initial.frame) l.initial.frame l.frame l.i
+abbrev pub invariant-loop-byte : goal.invariant-loop-byte
+invariant-loop-byte l = Filled (mirror_at l.initial.frame) l.initial.frame l.frame l.byte-index

@@ -1,11 +1,7 @@
 -- `fill` meets its contract: entry and store after one another.
-use Rattle.std.proofs.Common.{◌-◌}
 use Rattle.noting.specs.Noted.{noting}
 use Rattle.noting.proofs.Laying.{Filling}
 use Rattle.noting.proofs.block.fill.Given as goal
 
 abbrev pub invariant-loop-k : goal.invariant-loop-k
-invariant-loop-k l = Filling l.log l.from l.n l.start l.initial.mem l.mem (noting l.count l.initial.list) l.list l.k
-
-abbrev pub decreases-loop-k : goal.decreases-loop-k
-decreases-loop-k l = l.n - l.k
+invariant-loop-k l = Filling l.log l.from l.n l.start l.initial.memory l.memory (noting l.count l.initial.list) l.list l.k

@@ -4,10 +4,10 @@ use Rattle.turns.proofs.Blocks.{lent-right, lent-left}
 use Rattle.noting.proofs.block.lay.Goals as goal
 
 pub overflow_sub-total : goal.overflow_sub-total
-overflow_sub-total c = let a = c.args in (lent-right (length a.mem.now) a.total (length a.log.now) a.from c.if-lent-from.true).1.1
+overflow_sub-total c = let a = c.args in (lent-right (length a.memory.now) a.total (length a.log.now) a.from c.if-lent-from.true).1.1
 
 pub lay_alike-requires : goal.lay_alike-requires
-lay_alike-requires c = let a = c.args in let e = lent-right (length a.mem.now) a.total (length a.log.now) a.from c.if-lent-from.true in record { mem_len = e.0; left_in_bounds = omega (arith, e.1.0, e.1.1) }
+lay_alike-requires c = let a = c.args in let e = lent-right (length a.memory.now) a.total (length a.log.now) a.from c.if-lent-from.true in record { mem_len = e.0; left_in_bounds = omega (arith, e.1.0, e.1.1) }
 
 pub returns-then-lent-from : goal.returns-then-lent-from
 returns-then-lent-from c = λ m l f. c.lay_alike.ensures

@@ -10,4 +10,4 @@ pub returns-then-inside : goal.returns-then-inside
 returns-then-inside c = span-high _ _ _ (omega arith) (omega arith) (omega arith) (sym c.requires ∙ c.if-inside.true) c.if-at-last.false
 
 pub returns : goal.returns
-returns c = span-out _ _ _ (omega arith) (omega arith) (omega arith) (omega arith) c.wrapping_sub_u16.ensures.value (sym c.requires ∙ c.if-inside.false)
+returns c = span-out _ _ _ (omega arith) (omega arith) (omega arith) (omega arith) (omega arith) (sym c.requires ∙ c.if-inside.false)

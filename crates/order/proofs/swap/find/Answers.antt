@@ -1,28 +1,26 @@
--- `find` meets its contract: operations are walked over until none is left before the first that was asked for.
-use native.Mathlib.Omega.{arith}
-use Rattle.order.proofs.Seeks.{seeking, seeking-on, seeking-here, seeking-ends, seeking-never}
+-- `find` meets its contract: as many operations are walked over as stand before the first that was asked for.
+use Rattle.std.proofs.Common.{◌≡◌, None, sym, rules}
+use Rattle.order.proofs.Seeks.{seeking-on, seeking-here, seeking-ends, seeking-never}
 use Rattle.order.proofs.swap.find.Goals as goal
 
-pub loop-placed-init : goal.loop-placed-init
-loop-placed-init c = seeking c.args.panel c.args.book.now c.args.start c.args.end c.args.i c.requires
+pub returns-in_default : goal.returns-in_default
+returns-in_default c =
+    let none : c.in_default.field-0 ≡ None = search rules in
+    seeking-ends _ _ _ _ _ c.loop.invariant (sym (rw (c.in_default.is, none) at c.read.ensures.value))
 
-pub beside-requires : goal.beside-requires
-beside-requires c = c.loop-placed.invariant.valid
+pub returns-in_default-2 : goal.returns-in_default-2
+returns-in_default-2 c = absurd (seeking-never _ _ _ _ _ c.loop.invariant (sym (rw c.in_default.is at c.read.ensures.value)))
 
-pub returns-then-left-eq0 : goal.returns-then-left-eq0
-returns-then-left-eq0 c = seeking-here c.args.panel c.args.book.now c.args.start c.args.end c.args.i c.loop-placed.invariant c.read-found.ensures.value c.in-Operation.is c.if-left-eq0.true c.beside.ensures
+pub loop-preserved : goal.loop-preserved
+loop-preserved c = seeking-on _ _ _ _ _ c.loop.invariant (sym (rw c.in-Ok-Some.field-0-is at c.in-Ok-Some.ensures.value)) c.loop-test.true
 
-pub overflow_sub-left : goal.overflow_sub-left
-overflow_sub-left c = omega (arith, c.if-left-eq0.false)
+pub returns-in_default-read : goal.returns-in_default-read
+returns-in_default-read c =
+    let none : c.in_default-read.field-0 ≡ None = search rules in
+    seeking-ends _ _ _ _ _ c.loop.invariant (sym (rw (c.in_default-read.is, none) at c.read-2.ensures.value))
 
-pub loop-placed-smaller : goal.loop-placed-smaller
-loop-placed-smaller c = omega (arith, c.if-left-eq0.false)
+pub returns-in_default-read-2 : goal.returns-in_default-read-2
+returns-in_default-read-2 c = absurd (seeking-never _ _ _ _ _ c.loop.invariant (sym (rw c.in_default-read.is at c.read-2.ensures.value)))
 
-pub loop-placed-preserved : goal.loop-placed-preserved
-loop-placed-preserved c = seeking-on c.args.panel c.args.book.now c.args.start c.args.end c.args.i c.loop-placed.invariant c.read-found.ensures.value c.in-Operation.is (omega (arith, c.if-left-eq0.false))
-
-pub returns-in-End : goal.returns-in-End
-returns-in-End c = seeking-ends c.args.panel c.args.book.now c.args.start c.args.end c.args.i c.loop-placed.invariant c.read-found.ensures.value c.in-End.is
-
-pub returns-in-Faulty : goal.returns-in-Faulty
-returns-in-Faulty c = absurd (seeking-never c.args.panel c.args.book.now c.args.start c.args.end c.args.i c.loop-placed.invariant c.read-found.ensures.value c.in-Faulty.is)
+pub returns : goal.returns
+returns c = seeking-here _ _ _ _ _ c.loop.invariant (sym (rw c.in-Ok-Some-read.field-0-is at c.in-Ok-Some-read.ensures.value)) c.loop-test.false c.beside.ensures

@@ -1,24 +1,17 @@
 -- `draw` meets its contract: the door, the planes, then the dots.
-use mathlib.Core.Path.{ap, sym, ◌∙◌}
-use Prim.Native.Nat.{ℕ, ◌*◌}
+use Rattle.std.proofs.Common.{◌≡◌, Err, sym, ◌∙◌, rules}
 use Rattle.state.proofs.Sizes.{is-size}
-use Rattle.painter.proofs.Answers.{draw-door, door-valid, door-frame, draw-refused, drawn-paintable, draw-0}
+use Rattle.picture.specs.Picture.{picture_frame}
+use Rattle.painter.proofs.Answers.{draw-refused, draw-0}
 use Rattle.painter.proofs.draw.draw.Goals as goal
 
-pub returns-then-refused-ne0 : goal.returns-then-refused-ne0
-returns-then-refused-ne0 c = let a = c.args in
-    draw-door a.panel a.book.now a.number a.rom.now a.phase a.graphic.now a.codes.now a.glyphs.now a.frame.now c.door-refused.ensures c.if-refused-ne0.true
+pub returns-in_err-style-clause-drawn : goal.returns-in_err-style-clause-drawn
+returns-in_err-style-clause-drawn c =
+    let v = sym c.valid.ensures ∙ c.if-not-valid.false in
+    let e : c.from_residual.result ≡ Err c.in_err-style.field-0.0 = search rules in
+    rw e (draw-refused _ _ _ _ _ _ _ _ _ v (rw (is-size c.args.panel v c.frame_size.ensures.value) at c.if-not-fits.false) _ c.in_err-style.ensures.planned)
 
-pub returns-then-planned-ne0 : goal.returns-then-planned-ne0
-returns-then-planned-ne0 c = let a = c.args in
-    draw-refused a.panel a.book.now a.number a.rom.now a.phase a.graphic.now a.codes.now a.glyphs.now a.frame.now c.door-refused.ensures c.if-refused-ne0.false c.planes-planned.ensures c.if-planned-ne0.true
-
-pub paint_rows-requires : goal.paint_rows-requires
-paint_rows-requires c = let a = c.args in
-    let v = door-valid a.panel a.book.now a.number a.rom.now a.phase a.graphic.now a.codes.now a.glyphs.now a.frame.now c.door-refused.ensures c.if-refused-ne0.false in
-    let b = is-size a.panel v c.row_size-bytes.ensures in
-    record { paintable = drawn-paintable a.panel a.book.now a.number a.rom.now a.phase a.graphic.now a.codes.now a.glyphs.now a.frame.now c.door-refused.ensures c.if-refused-ne0.false c.planes-planned.ensures c.if-planned-ne0.false; bytes_value = (b, door-frame a.panel a.book.now a.number a.rom.now a.phase a.graphic.now a.codes.now a.glyphs.now a.frame.now c.door-refused.ensures c.if-refused-ne0.false ∙ ap (λ (n : ℕ). 8 * a.panel.lines * n) (sym b)) }
-
-pub returns : goal.returns
-returns c = let a = c.args in
-    draw-0 a.panel a.book.now a.number a.rom.now a.phase a.graphic.now a.codes.now a.glyphs.now a.frame.now c.door-refused.ensures c.if-refused-ne0.false c.planes-planned.ensures c.if-planned-ne0.false c.paint_rows.ensures
+pub returns-clause-drawn : goal.returns-clause-drawn
+unfolding picture_frame
+returns-clause-drawn c = let v = sym c.valid.ensures ∙ c.if-not-valid.false in
+    draw-0 _ _ _ _ _ _ _ _ _ v (rw (is-size c.args.panel v c.frame_size.ensures.value) at c.if-not-fits.false) _ c.in_ok-style.ensures.planned c.paint.ensures

@@ -1,32 +1,18 @@
--- `planes` meets its contract: the panel, the lengths, the screen, then its picture.
-use native.Mathlib.Nat.{mul_assoc}
-use native.Mathlib.Omega.{arith}
-use Rattle.std.proofs.Common.{not, ap}
-use Rattle.state.proofs.Valid.{panelled}
-use Rattle.state.proofs.Sizes.{cells-few}
-use Rattle.picture.proofs.Plannings.{plan-1, plan-2, plan-valid, plan-sized, plan-refused, plan-body, plan-0}
+-- `planes` meets its contract: the screen checked, then its operations laid over three cleared planes.
+use Rattle.std.proofs.Common.{◌≡◌, Err, sym, ◌∙◌, rules}
+use Rattle.picture.proofs.Bodies.{blank-is, screen-applied}
+use Rattle.picture.proofs.Plannings.{plan-refused, plan-body, plan-0}
 use Rattle.picture.proofs.plan.planes.Goals as goal
 
-pub returns-then-not-valid : goal.returns-then-not-valid
-returns-then-not-valid c = plan-1 c.args.panel c.args.book.now c.args.key c.args.graphic.now c.args.codes.now c.args.glyphs.now c.valid-valid.ensures (ap not c.if-not-valid.true) c.refuse.ensures
+pub returns-in_err-body-clause-planned : goal.returns-in_err-body-clause-planned
+returns-in_err-body-clause-planned c =
+    let e : c.from_residual.result ≡ Err c.in_err-body.field-0.0 = search rules in
+    rw e (plan-refused _ _ _ (sym c.valid.ensures ∙ c.if-not-valid.false) _ _ _ c.if-not-fits.false _ c.in_err-body.ensures)
 
-pub overflow_mul-fits : goal.overflow_mul-fits
-overflow_mul-fits c = omega (arith, (panelled c.args.panel (plan-valid c.args.panel c.args.book.now c.args.key c.args.graphic.now c.args.codes.now c.args.glyphs.now c.valid-valid.ensures (ap not c.if-not-valid.false))).lines)
+pub apply_all-requires : goal.apply_all-requires
+apply_all-requires c = plan-body _ _ _ (sym c.valid.ensures ∙ c.if-not-valid.false) c.in_ok-body.ensures
 
-pub overflow_mul-fits-2 : goal.overflow_mul-fits-2
-overflow_mul-fits-2 c = omega (arith, cells-few c.args.panel (plan-valid c.args.panel c.args.book.now c.args.key c.args.graphic.now c.args.codes.now c.args.glyphs.now c.valid-valid.ensures (ap not c.if-not-valid.false)), mul_assoc 8 c.args.panel.lines c.args.panel.columns)
-
-pub overflow_mul-fits-3 : goal.overflow_mul-fits-3
-overflow_mul-fits-3 c = omega (arith, cells-few c.args.panel (plan-valid c.args.panel c.args.book.now c.args.key c.args.graphic.now c.args.codes.now c.args.glyphs.now c.valid-valid.ensures (ap not c.if-not-valid.false)))
-
-pub returns-then-not-fits : goal.returns-then-not-fits
-returns-then-not-fits c = plan-2 c.args.panel c.args.book.now c.args.key c.args.graphic.now c.args.codes.now c.args.glyphs.now c.valid-valid.ensures (ap not c.if-not-valid.false) (ap not c.if-not-fits.true) c.refuse-then-not-fits.ensures
-
-pub returns-then-checked-ne0 : goal.returns-then-checked-ne0
-returns-then-checked-ne0 c = plan-refused c.args.panel c.args.book.now c.args.key c.args.graphic.now c.args.codes.now c.args.glyphs.now c.valid-valid.ensures (ap not c.if-not-valid.false) (ap not c.if-not-fits.false) c.check-checked.ensures c.if-checked-ne0.true c.refuse-then-checked-ne0.ensures
-
-pub picture-style-requires : goal.picture-style-requires
-picture-style-requires c = record { drawable_body = plan-body c.args.panel c.args.book.now c.args.key c.args.graphic.now c.args.codes.now c.args.glyphs.now c.valid-valid.ensures (ap not c.if-not-valid.false) (ap not c.if-not-fits.false) c.check-checked.ensures c.if-checked-ne0.false; sized = plan-sized c.args.panel c.args.book.now c.args.key c.args.graphic.now c.args.codes.now c.args.glyphs.now c.valid-valid.ensures (ap not c.if-not-valid.false) (ap not c.if-not-fits.false) }
-
-pub returns : goal.returns
-returns c = plan-0 c.args.panel c.args.book.now c.args.key c.args.graphic.now c.args.codes.now c.args.glyphs.now c.valid-valid.ensures (ap not c.if-not-valid.false) (ap not c.if-not-fits.false) c.check-checked.ensures c.if-checked-ne0.false c.picture-style.ensures
+pub returns-clause-planned : goal.returns-clause-planned
+returns-clause-planned c =
+    plan-0 _ _ _ (sym c.valid.ensures ∙ c.if-not-valid.false) _ _ _ c.if-not-fits.false c.in_ok-body.ensures _
+    (screen-applied _ _ _ (search rules) (search rules) (search rules) c.apply_all.ensures.made (blank-is _ (search rules) c.clear.ensures c.clear-2.ensures c.clear-3.ensures))

@@ -1,15 +1,11 @@
--- `fill` meets its contract: byte after byte.
-use Rattle.picture.proofs.Storing.{storing, storing-on, storing-over, fill_left, fill-next, fill_none, fill-all}
+-- `fill` meets its contract.
+use Rattle.std.proofs.Common.{ℕ, ◌+◌, ◌-◌, replicate, drop, ap, ◌∙◌, arith, length-drop, length-take}
+use Rattle.std.proofs.lemmas.List.{length-replicate}
+use Rattle.ground.proofs.Mids.{mid-sets}
 use Rattle.picture.proofs.plane.fill.Goals as goal
 
-pub loop-i-init : goal.loop-i-init
-loop-i-init c = let a = c.args in storing a.plane.now a.at a.n (fill_left a.value a.n)
-
-pub loop-i-preserved : goal.loop-i-preserved
-loop-i-preserved c = let a = c.args in storing-on c.loop-i.invariant c.loop-i-test.true (fill-next a.value a.n c.loop-i.i c.loop-i-test.true)
-
-pub shape_of-plane : goal.shape_of-plane
-shape_of-plane c = c.loop-i.invariant.kept
-
 pub returns : goal.returns
-returns c = let a = c.args in storing-over c.loop-i.invariant c.loop-i-test.false (fill_none a.value a.n) (fill-all a.value a.n)
+returns c = let a = c.args in
+    mid-sets a.at a.n a.plane.now (replicate a.n a.value)
+    (c.fill.ensures.after (λ y e. e) ∙ ap (λ (m : ℕ). replicate m a.value) (omega (arith, c.requires, length-take (a.at + a.n - a.at) (drop a.at a.plane.now), length-drop a.at a.plane.now)))
+    (length-replicate _ _) c.requires

@@ -1,15 +1,8 @@
--- `store` meets its contract: byte after byte.
-use Rattle.picture.proofs.Storing.{storing, storing-on, storing-over, bytes_left, bytes_next, bytes-none, bytes-all}
+-- `store` meets its contract.
+use Rattle.std.proofs.Common.{ℕ, ap, ◌∙◌, take, drop, arith, length-drop}
+use lib.Seq.{length-take-le}
+use Rattle.ground.proofs.Mids.{mid-sets}
 use Rattle.picture.proofs.plane.store.Goals as goal
 
-pub loop-i-init : goal.loop-i-init
-loop-i-init c = let a = c.args in storing a.plane.now a.at a.n (bytes_left a.book.now a.from a.n)
-
-pub loop-i-preserved : goal.loop-i-preserved
-loop-i-preserved c = let a = c.args in storing-on c.loop-i.invariant c.loop-i-test.true (bytes_next a.book.now a.from a.n c.loop-i.i c.requires.n_in_bounds_2 c.loop-i-test.true)
-
-pub shape_of-plane : goal.shape_of-plane
-shape_of-plane c = c.loop-i.invariant.kept
-
 pub returns : goal.returns
-returns c = let a = c.args in storing-over c.loop-i.invariant c.loop-i-test.false (bytes-none a.book.now a.from a.n) (bytes-all a.book.now a.from a.n)
+returns c = let a = c.args in mid-sets a.at a.n a.plane.now (take a.n (drop a.from a.book.now)) (c.copy_from_slice.ensures.after ∙ ap (λ (m : ℕ). take m (drop a.from a.book.now)) (omega arith)) (length-take-le _ _ (omega (arith, length-drop a.from a.book.now, c.requires.n_in_bounds_2))) c.requires.n_in_bounds

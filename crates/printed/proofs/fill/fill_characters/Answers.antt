@@ -9,20 +9,8 @@ use Rattle.printed.proofs.fill.fill_characters.Goals as goal
 pub loop-i-init : goal.loop-i-init
 loop-i-init c = none_yet character_row c.args.rom.now
 
-pub overflow_add-rom : goal.overflow_add-rom
-overflow_add-rom c = omega (arith, as_long _ _ c.loop-i.invariant)
-
-pub overflow_add-i : goal.overflow_add-i
-overflow_add-i c = omega (arith, as_long _ _ c.loop-i.invariant)
-
-pub loop-i-smaller : goal.loop-i-smaller
-loop-i-smaller c = omega (arith, as_long _ _ c.loop-i.invariant)
-
 pub loop-i-preserved : goal.loop-i-preserved
-loop-i-preserved c = one_more _ _ c.loop-i.invariant (omega (arith, as_long _ _ c.loop-i.invariant)) refl
-
-pub shape_of-rom : goal.shape_of-rom
-shape_of-rom c = as_long _ _ c.loop-i.invariant
+loop-i-preserved c = one_more _ _ c.loop-i.invariant c.loop-i-test.true refl
 
 pub returns : goal.returns
 returns c = at-end _ _ c.loop-i.invariant (length c.args.rom.now) refl (omega (arith, as_long _ _ c.loop-i.invariant))

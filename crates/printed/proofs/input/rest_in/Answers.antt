@@ -3,4 +3,4 @@ use Rattle.printed.proofs.Prints.{rest-is}
 use Rattle.printed.proofs.input.rest_in.Goals as goal
 
 pub returns : goal.returns
-returns c = rest-is c.args.input.now c.args.head c.lesser-start.ensures
+returns c = rest-is c.args.input.now c.args.head c.min.ensures

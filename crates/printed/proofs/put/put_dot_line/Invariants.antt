@@ -1,5 +1,5 @@
 -- `put_dot_line` meets its contract: the dots so far, one more at each turn, then the line's end.
-use Prim.Native.Nat.{◌≤◌, ◌-◌}
+use Prim.Native.Nat.{◌≤◌}
 use Rattle.ground.specs.Lists.{build}
 use Rattle.printed.specs.Text.{dot_mark_at}
 use Rattle.printed.proofs.Puts.{Putting}
@@ -7,6 +7,3 @@ use Rattle.printed.proofs.put.put_dot_line.Given as goal
 
 abbrev pub invariant-loop-x : goal.invariant-loop-x
 invariant-loop-x l = (l.x ≤ l.dots) × Putting l.initial.out l.at (build l.x (dot_mark_at l.frame l.from)) l.x l.out l.w
-
-abbrev pub decreases-loop-x : goal.decreases-loop-x
-decreases-loop-x l = l.dots - l.x

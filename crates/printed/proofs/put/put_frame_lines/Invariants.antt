@@ -1,5 +1,5 @@
 -- `put_frame_lines` meets its contract: the rows so far, one more at each turn.
-use Prim.Native.Nat.{◌≤◌, ◌+◌, ◌-◌, ◌*◌}
+use Prim.Native.Nat.{◌≤◌, ◌+◌, ◌*◌}
 use Rattle.ground.specs.Lists.{joined}
 use Rattle.printed.specs.Text.{dot_line}
 use Rattle.printed.proofs.Puts.{Putting}
@@ -7,6 +7,3 @@ use Rattle.printed.proofs.put.put_frame_lines.Given as goal
 
 abbrev pub invariant-loop-row : goal.invariant-loop-row
 invariant-loop-row l = (l.row ≤ l.rows) × Putting l.initial.out l.at (joined l.row (λ r. dot_line l.frame (r * l.bytes) l.dots)) (l.row * (l.dots + 1)) l.out l.w
-
-abbrev pub decreases-loop-row : goal.decreases-loop-row
-decreases-loop-row l = l.rows - l.row

@@ -1,5 +1,5 @@
 -- `put_hex_lines` meets its contract: the lines so far, one more at each turn.
-use Prim.Native.Nat.{◌≤◌, ◌-◌, ◌*◌}
+use Prim.Native.Nat.{◌≤◌, ◌*◌}
 use Rattle.ground.specs.Lists.{joined}
 use Rattle.printed.specs.Text.{hex_line_at}
 use Rattle.printed.proofs.Puts.{Putting}
@@ -7,6 +7,3 @@ use Rattle.printed.proofs.put.put_hex_lines.Given as goal
 
 abbrev pub invariant-loop-i : goal.invariant-loop-i
 invariant-loop-i l = (l.i ≤ l.given) × Putting l.initial.out l.at (joined l.i (hex_line_at l.answers)) (3 * l.i) l.out l.w
-
-abbrev pub decreases-loop-i : goal.decreases-loop-i
-decreases-loop-i l = l.given - l.i

@@ -1,11 +1,7 @@
 -- `put_text` meets its contract: the text so far, one character more at each turn.
-use Prim.Native.Nat.{◌≤◌, ◌-◌}
-use lib.ListN.{length, take}
+use lib.ListN.{take}
 use Rattle.printed.proofs.Puts.{Putting}
 use Rattle.printed.proofs.put.put_text.Given as goal
 
-abbrev pub invariant-loop-i : goal.invariant-loop-i
-invariant-loop-i l = (l.i ≤ length l.text) × Putting l.initial.out l.at (take l.i l.text) l.i l.out l.w
-
-abbrev pub decreases-loop-i : goal.decreases-loop-i
-decreases-loop-i l = length l.text - l.i
+abbrev pub invariant-loop-byte : goal.invariant-loop-byte
+invariant-loop-byte l = Putting l.initial.out l.at (take l.byte-index l.text) l.byte-index l.out l.w

@@ -18,4 +18,4 @@ slice_bounds-row_layers-end-3 c = let h : c.args.panel.columns - c.args.column â
 
 pub returns : goal.returns
 returns c = let h : c.args.panel.columns - c.args.column â‰¤ 80 = omega (arith, c.requires.seeing.columns) in
-    gathered _ _ _ _ _ refl refl h (length-take-le _ _ h) (shown-bytes c.requires.seeing _ _ _ _ _ c.row_layers.ensures refl refl)
+    gathered _ _ _ _ _ refl refl h (length-take-le _ _ h) (shown-bytes c.requires.seeing _ _ _ _ _ c.row_layers.ensures.answer refl refl)

@@ -3,5 +3,5 @@ use Rattle.ground.proofs.Passes.{Passing}
 use Rattle.state.proofs.Rounds.{mixed_at}
 use Rattle.state.proofs.combination.mix_round.Given as goal
 
-abbrev pub invariant-loop-j : goal.invariant-loop-j
-invariant-loop-j l = Passing (mixed_at l.text_on l.graphic_on l.combination l.width l.mem l.start l.initial.cells) l.start l.initial.cells l.cells l.at l.j
+abbrev pub invariant-loop-cell : goal.invariant-loop-cell
+invariant-loop-cell l = Passing (mixed_at l.text_on l.graphic_on l.combination l.width l.mem l.start l.initial.cells) l.start l.initial.cells l.cells l.at l.cell-index

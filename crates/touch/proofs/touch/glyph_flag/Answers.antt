@@ -9,7 +9,7 @@ one false m e = sym e
 
 pub returns-then-flag-eq1 : goal.returns-then-flag-eq1
 returns-then-flag-eq1 c = let s = c.args in
-    one (glyph_meets s.panel s.display s.mem.now s.row s.at s.n) s.flag c.if-flag-eq1.true
+    one (glyph_meets s.panel s.display s.memory.now s.row s.at s.n) s.flag c.if-flag-eq1.true
 
 pub returns : goal.returns
 returns c = let s = c.args in

@@ -5,4 +5,4 @@ use Rattle.touch.proofs.touch.hits.Goals as goal
 
 pub returns : goal.returns
 returns c = let a = c.args in
-    code_meets_lem a.display a.code a.v a.at a.n (omega arith) (omega arith) (omega (arith, c.requires)) c.wrapping_sub_u16-ahead.ensures.value
+    code_meets_lem a.display a.code a.v a.at a.n (omega arith) (omega arith) (omega (arith, c.requires)) (omega arith)

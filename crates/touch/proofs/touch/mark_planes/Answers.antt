@@ -4,12 +4,6 @@ use Rattle.ground.proofs.Filling.{none_yet, as_long}
 use Rattle.touch.proofs.Marks.{plane_test, plane-row-most, planes-one, marks-all}
 use Rattle.touch.proofs.touch.mark_planes.Goals as goal
 
-pub overflow_sub-columns : goal.overflow_sub-columns
-overflow_sub-columns c = omega (arith, c.requires.columns_nonzero)
-
-pub overflow_cast-columns : goal.overflow_cast-columns
-overflow_cast-columns c = omega (arith, c.requires.columns_nonzero)
-
 pub span-places-requires : goal.span-places-requires
 span-places-requires c = let h = c.requires.columns_nonzero in (h.0, h.1)
 
@@ -22,16 +16,10 @@ reaches-text-requires c = omega (arith, c.loop-row-test.true, c.requires.columns
 pub reaches-graphic-requires : goal.reaches-graphic-requires
 reaches-graphic-requires c = omega (arith, c.loop-row-test.true, c.requires.columns_nonzero.2, c.requires.flags_len, c.plane_row.ensures, plane-row-most c.args.display.combination c.loop-row.row)
 
-pub bounds-flags-row : goal.bounds-flags-row
-bounds-flags-row c = omega (arith, as_long _ _ c.loop-row.invariant)
-
-pub bounds-flags-row-in-loop-row : goal.bounds-flags-row-in-loop-row
-bounds-flags-row-in-loop-row c = omega (arith, as_long _ _ c.loop-row.invariant)
-
 pub loop-row-preserved : goal.loop-row-preserved
 loop-row-preserved c = let s = c.args in
     planes-one s.display s.panel.columns s.at s.n s.altered s.flags.now c.loop-row.invariant c.loop-row-test.true (c.requires.columns_nonzero.0, c.requires.columns_nonzero.1) (omega arith) (omega arith)
-    c.wrapping_sub_u16-low.ensures.value c.span-places.ensures refl c.reaches-text.ensures c.plane_row.ensures c.reaches-graphic.ensures c.kept.ensures
+    (omega arith) c.span-places.ensures refl c.reaches-text.ensures c.plane_row.ensures c.reaches-graphic.ensures c.kept.ensures
 
 pub shape_of-flags : goal.shape_of-flags
 shape_of-flags c = as_long _ _ c.loop-row.invariant

@@ -14,8 +14,8 @@ mark_glyphs-requires c = record { marking = c.requires.marking; flags_len = omeg
 
 pub returns-then-near : goal.returns-then-near
 returns-then-near c = let s = c.args in
-    marks-both s.panel s.display s.mem.now s.at s.n s.altered s.flags.now c.mark_planes.ensures c.mark_glyphs.ensures
+    marks-both s.panel s.display s.memory.now s.at s.n s.altered s.flags.now c.mark_planes.ensures c.mark_glyphs.ensures
 
 pub returns-else-near : goal.returns-else-near
 returns-else-near c = let s = c.args in
-    marks-far s.panel s.display s.mem.now s.at s.n s.altered s.flags.now c.mark_planes.ensures (omega arith) c.requires.marking.offset (λ i. (c.type_inv.mem i).fits) c.near.ensures c.if-near.false
+    marks-far s.panel s.display s.memory.now s.at s.n s.altered s.flags.now c.mark_planes.ensures (omega arith) c.requires.marking.offset (λ i. (c.type_inv.memory i).fits) c.near.ensures c.if-near.false

@@ -5,4 +5,4 @@ use Rattle.touch.proofs.touch.near.Goals as goal
 
 pub returns : goal.returns
 returns c = let a = c.args in
-    near-is a.display a.at a.n (omega arith) c.requires (omega arith) (omega arith) c.wrapping_sub_u16-past.ensures.value c.wrapping_sub_u16-ahead.ensures.value
+    near-is a.display a.at a.n (omega arith) c.requires (omega arith) (omega arith) (omega arith) (omega arith)

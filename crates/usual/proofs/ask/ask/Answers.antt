@@ -22,7 +22,7 @@ pub bounds-answers-given-then-kind-room-3 : goal.bounds-answers-given-then-kind-
 bounds-answers-given-then-kind-room-3 c = let h = room-still c.args.kind 2 c.args.given c.args.answers.now c.is_read.result c.if-kind-room-3.true in omega (arith, h)
 
 pub returns-then-kind-room-3 : goal.returns-then-kind-room-3
-returns-then-kind-room-3 c = asks-fetch c.is_read.ensures c.if-kind-room-3.true c.fetch-fetched.ensures
+returns-then-kind-room-3 c = asks-fetch c.is_read.ensures c.if-kind-room-3.true c.byte_there.ensures c.moved.ensures
 
 pub returns : goal.returns
 returns c = asks-left

@@ -14,19 +14,19 @@ overflow_mul-cells c = omega (arith, cells-few c.args.panel c.requires.panel_val
 pub overflow_mul-cells-2 : goal.overflow_mul-cells-2
 overflow_mul-cells-2 c = omega (arith, cells-few c.args.panel c.requires.panel_value)
 
-pub put_run-b-requires : goal.put_run-b-requires
+pub run-requires : goal.run-requires
 unfolding set_up
-put_run-b-requires c = let a = c.args in omega (arith, mul_comm a.panel.lines a.panel.columns)
+run-requires c = let a = c.args in omega (arith, mul_comm a.panel.lines a.panel.columns)
 
-pub put_run-c-requires : goal.put_run-c-requires
+pub run-requires-2 : goal.run-requires-2
 unfolding set_up
-put_run-c-requires c = let a = c.args in
+run-requires-2 c = let a = c.args in
     omega (arith, mul_comm a.panel.lines a.panel.columns, run_length graphic_home (8 * (a.panel.lines * a.panel.columns)) 0)
 
-pub put_run-requires : goal.put_run-requires
+pub run-requires-3 : goal.run-requires-3
 unfolding set_up
-put_run-requires c = let a = c.args in
+run-requires-3 c = let a = c.args in
     omega (arith, c.requires, mul_comm a.panel.lines a.panel.columns, run_length graphic_home (8 * (a.panel.lines * a.panel.columns)) 0, run_length c.text_home.result (a.panel.lines * a.panel.columns) 0)
 
 pub returns : goal.returns
-returns c = put-opening c.args.panel c.put_set_up-a.ensures c.put_run-b.ensures (put-block-as _ c.text_home.ensures c.put_run-c.ensures) c.put_run.ensures
+returns c = put-opening c.args.panel c.put_set_up.ensures c.run.ensures (put-block-as _ c.text_home.ensures c.run-2.ensures) c.run-3.ensures

@@ -8,4 +8,4 @@ pub overflow_cast-columns : goal.overflow_cast-columns
 overflow_cast-columns c = omega (arith, columns-few c.args.panel c.requires.panel_value)
 
 pub returns : goal.returns
-returns c = put_both (put-word-as c.text_home.ensures c.put_word-a.ensures) (put_both c.put_two-b.ensures (put_both c.put_word-c.ensures c.put_two.ensures))
+returns c = put_both (put-word-as c.text_home.ensures c.command_with_word.ensures) (put_both c.command_with.ensures (put_both c.command_with_word-2.ensures c.command_with-2.ensures))

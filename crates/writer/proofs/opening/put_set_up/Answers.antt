@@ -5,4 +5,4 @@ use Rattle.writer.proofs.opening.put_set_up.Goals as goal
 
 pub returns : goal.returns
 unfolding set_up
-returns c = put_both c.put_code-a.ensures (put_both c.put_planes-b.ensures (put_both c.put_two-c.ensures (put_both c.put_code-d.ensures c.put_code.ensures)))
+returns c = put_both c.command.ensures (put_both c.put_planes.ensures (put_both c.command_with.ensures (put_both c.command-2.ensures c.command-3.ensures)))

@@ -1,28 +1,23 @@
 -- `put_body` meets its contract: what is left of the body is still to be put.
+use mathlib.Core.Path.{refl, sym}
 use Rattle.writer.proofs.Bodies.{writing, writing-found, writing-ready, writing-on, writing-ends, writing-never}
 use native.Mathlib.Omega.{arith}
 use Rattle.writer.proofs.stream.put_body.Goals as goal
 
-pub loop-placed-init : goal.loop-placed-init
-loop-placed-init c = let a = c.args in writing a.panel a.book.now a.start a.end a.at c.requires
+pub loop-standing-init : goal.loop-standing-init
+loop-standing-init c = let a = c.args in writing a.panel a.book.now a.start a.end c.requires
 
-pub put_operation-w-requires : goal.put_operation-w-requires
-put_operation-w-requires c = let a = c.args in writing-ready a.panel a.book.now a.start a.end a.at c.loop-placed.invariant c.read-found.ensures.value c.in-Operation.is
+pub put_operation-requires : goal.put_operation-requires
+put_operation-requires c = let a = c.args in writing-ready a.panel a.book.now a.start a.end c.loop-standing.invariant refl (sym (rw c.in-Ok-Some.field-0-is at c.in-Ok-Some.ensures.value))
 
-pub loop-placed-smaller : goal.loop-placed-smaller
-loop-placed-smaller c = let a = c.args in let k = writing-found a.panel a.book.now a.start a.end a.at c.loop-placed.invariant c.read-found.ensures.value c.in-Operation.is in omega (arith, k.on, k.to_end)
+pub loop-standing-smaller : goal.loop-standing-smaller
+loop-standing-smaller c = let a = c.args in let k = writing-found a.panel a.book.now a.start a.end c.loop-standing.invariant refl (sym (rw c.in-Ok-Some.field-0-is at c.in-Ok-Some.ensures.value)) in omega (arith, k.on, k.to_end)
 
-pub loop-placed-preserved : goal.loop-placed-preserved
-loop-placed-preserved c = let a = c.args in writing-on a.panel a.book.now a.start a.end a.at c.loop-placed.invariant c.read-found.ensures.value c.in-Operation.is c.put_operation-w.ensures
+pub loop-standing-preserved : goal.loop-standing-preserved
+loop-standing-preserved c = let a = c.args in writing-on a.panel a.book.now a.start a.end c.loop-standing.invariant refl (sym (rw c.in-Ok-Some.field-0-is at c.in-Ok-Some.ensures.value)) c.put_operation.ensures
 
-pub shape_of-room-in-End : goal.shape_of-room-in-End
-shape_of-room-in-End c = c.loop-placed.invariant.puts.kept
+pub returns-in-Ok-None : goal.returns-in-Ok-None
+returns-in-Ok-None c = let a = c.args in writing-ends a.panel a.book.now a.start a.end c.loop-standing.invariant refl (sym (rw c.in-Ok-None.field-0-is at c.in-Ok-None.ensures.value))
 
-pub returns-in-End : goal.returns-in-End
-returns-in-End c = let a = c.args in writing-ends a.panel a.book.now a.start a.end a.at c.loop-placed.invariant c.read-found.ensures.value c.in-End.is
-
-pub shape_of-room-in-Faulty : goal.shape_of-room-in-Faulty
-shape_of-room-in-Faulty c = c.loop-placed.invariant.puts.kept
-
-pub returns-in-Faulty : goal.returns-in-Faulty
-returns-in-Faulty c = let a = c.args in absurd (writing-never a.panel a.book.now a.start a.end a.at c.loop-placed.invariant c.read-found.ensures.value c.in-Faulty.is)
+pub returns-in-Err : goal.returns-in-Err
+returns-in-Err c = let a = c.args in absurd (writing-never a.panel a.book.now a.start a.end c.loop-standing.invariant refl (sym c.in-Err.ensures.value))

@@ -3,8 +3,8 @@ use Prim.Native.Nat.{◌-◌}
 use Rattle.writer.proofs.Bodies.{Writing}
 use Rattle.writer.proofs.stream.put_body.Given as goal
 
-abbrev pub invariant-loop-placed : goal.invariant-loop-placed
-invariant-loop-placed l = Writing l.panel l.book l.start l.end l.at l.initial.room l.room l.next l.w
+abbrev pub invariant-loop-standing : goal.invariant-loop-standing
+invariant-loop-standing l = Writing l.panel l.book l.start l.end l.fn.stream l.stream l.next
 
-abbrev pub decreases-loop-placed : goal.decreases-loop-placed
-decreases-loop-placed l = l.end - l.next
+abbrev pub decreases-loop-standing : goal.decreases-loop-standing
+decreases-loop-standing l = l.end - l.next

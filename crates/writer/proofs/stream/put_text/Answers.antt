@@ -21,4 +21,4 @@ overflow_add-text_home c = omega (arith, text-place c.args.panel c.requires.vali
 
 pub returns : goal.returns
 unfolding operation_pairs
-returns c = let a = c.args in put-block-as _ (ap (λ (n : ℕ). n + (a.line * a.panel.columns + a.column)) c.text_home.ensures) c.put_block.ensures
+returns c = let a = c.args in put-block-as _ (ap (λ (n : ℕ). n + (a.line * a.panel.columns + a.column)) c.text_home.ensures) c.block.ensures

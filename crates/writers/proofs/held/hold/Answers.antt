@@ -7,4 +7,4 @@ pub slice_bounds-read_round-end : goal.slice_bounds-read_round-end
 slice_bounds-read_round-end c = sym (length-take-le _ _ c.requires.1)
 
 pub returns : goal.returns
-returns c = let both = held c.args.mem.now c.args.at c.args.n _ c.requires.0 (λ i. (c.type_inv.mem i).fits) c.requires.1 c.read_round.ensures in record { held = both.0; value = both.1 }
+returns c = let both = held c.args.memory.now c.args.at c.args.n _ c.requires.0 (λ i. (c.type_inv.memory i).fits) c.requires.1 c.read_round.ensures in record { held = both.0; value = both.1 }

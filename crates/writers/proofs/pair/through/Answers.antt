@@ -7,14 +7,13 @@ use Rattle.writers.proofs.pair.through.Goals as goal
 pub hold-before-requires : goal.hold-before-requires
 hold-before-requires c = ((runs-lengths c.requires).0, asked-few c.requires (record { kind = c.args.kind; byte = c.args.byte }) c.stores-all.ensures)
 
-pub slice_bounds-note_all-end : goal.slice_bounds-note_all-end
-slice_bounds-note_all-end c = c.hold-before.ensures.value
+pub note_all-count-requires : goal.note_all-count-requires
+note_all-count-requires c = (let e = (runs-lengths c.requires).0 in omega (arith, e, c.accessed-done.auto), asked-few c.requires (record { kind = c.args.kind; byte = c.args.byte }) c.stores-all.ensures, sym c.hold-before.ensures.value)
 
-pub note_all-noted-requires : goal.note_all-noted-requires
-note_all-noted-requires c = (let e = (runs-lengths c.requires).0 in omega (arith, e, c.mem-1.given), asked-few c.requires (record { kind = c.args.kind; byte = c.args.byte }) c.stores-all.ensures, sym c.hold-before.ensures.value)
+pub returns-in-Ok : goal.returns-in-Ok
+returns-in-Ok c =
+    through-accepted c.requires (record { kind = c.args.kind; byte = c.args.byte }) c.args.first c.args.last c.args.pair c.args.count c.args.list.now c.in-Ok.field-0 (rw c.in-Ok.is at c.accessed-done.ensures.step) c.stores-all.ensures c.hold-before.ensures.held c.note_all-count.ensures
 
-pub returns-then-acted-eq0 : goal.returns-then-acted-eq0
-returns-then-acted-eq0 c = through-accepted c.requires (record { kind = c.args.kind; byte = c.args.byte }) c.args.first c.args.last c.args.pair c.args.count c.args.list.now c.access-acted.ensures c.if-acted-eq0.true c.stores-all.ensures c.hold-before.ensures.held c.note_all-noted.ensures
-
-pub returns : goal.returns
-returns c = through-refused c.requires (record { kind = c.args.kind; byte = c.args.byte }) c.args.first c.args.last c.args.pair c.args.count c.args.list.now c.access-acted.ensures c.if-acted-eq0.false
+pub returns-in-Err : goal.returns-in-Err
+returns-in-Err c =
+    through-refused c.requires (record { kind = c.args.kind; byte = c.args.byte }) c.args.first c.args.last c.args.pair c.args.count c.args.list.now c.in-Err.field-0 (rw c.in-Err.is at c.accessed-done.ensures.step) (rw c.in-Err.is at c.accessed-done.ensures.err)

@@ -8,6 +8,4 @@ overflow_mul-down c = record { fits = lt_of_le_of_lt (mul-le-mul {n₂ = 65535} 
 
 pub returns : goal.returns
 returns c = let a = c.args in
-    c.wrapping_add_u16.ensures.value
-    ∙ ap (λ (n : ℕ). (n + a.column % 65536) % 65536) c.wrapping_add_u16-start.ensures.value
-    ∙ round a.self.home a.row a.self.area a.column 65536
+    round a.self.home a.row a.self.area a.column 65536

@@ -1,6 +1,0 @@
--- `put_screens` stays inside its tables.
-use Prim.Native.Nat.{◌≤◌}
-use Rattle.screens.proofs.put_screens.Given as goal
-
-abbrev pub invariant-loop-i : goal.invariant-loop-i
-invariant-loop-i l = (l.i-end ≤ 64) × (l.i ≤ l.i-end)
