@@ -1,5 +1,6 @@
 pub mod Counting
 pub mod Finding
+pub mod GivenPlace
 pub mod Locality
 pub mod Numbers
 pub mod Places

@@ -27,17 +27,14 @@ fn count(panel: Panel, book: &[u8], start: usize, end: usize) -> Result<usize, R
 {
     let mut at = start;
     let mut total: usize = 0;
-    // a `loop`: each operation says where the next begins, and no index counts them
-    loop {
-        match read(panel, book, at, end) {
-            Ok(Some(standing)) => {
-                total += pairs(standing.placed);
-                at = standing.next;
-            }
-            Ok(None) => return Ok(total),
-            Err(refusal) => return Err(Refused { refusal, place: at }),
-        }
+    while let Some(standing) = read(panel, book, at, end).map_err(|refusal| Refused {
+        refusal,
+        place: at,
+    })? {
+        total += pairs(standing.placed);
+        at = standing.next;
     }
+    Ok(total)
 }
 
 /// A screen of a book, by its number in form one or its identity in form two. The panel is judged first, then the contents,

@@ -1,28 +1,22 @@
 -- What an access and a reset come to behind the door, and that the reply of each export is settled.
 use mathlib.Core.Path.{◌≡◌, ap, sym, ◌∙◌}
-use mathlib.Core.Bool.{Bool, true, false, cond}
+use mathlib.Core.Bool.{Bool, true, cond}
 use mathlib.Core.List.{List}
 use Prim.Native.Nat.{ℕ}
-use native.Mathlib.Omega.{arith}
 use lib.Dec.{eqb}
 use lib.ListN.{length}
-use borrow.Author.Tests.{eq-eqb, ne_eqb}
+use borrow.Author.Tests.{eq-eqb}
 use Rattle.ground.specs.Bytes.{word_of}
 use Rattle.ground.proofs.Tests.{settled}
 use Rattle.state.specs.State.{reset_registers}
-use Rattle.sight.specs.Answered.{Seen}
-use Rattle.display.specs.Frame.{painted, paint_of}
-use Rattle.sight.specs.Seen.{layers_of}
 use Rattle.controller.specs.Access.{Pair, refused, replied, access_of}
 use Rattle.single.specs.Outcome.{entered_of}
 use Rattle.single.proofs.Acts.{acted-entered}
-use Rattle.controller.specs.Run.{ran_all, stopping_of}
-use Rattle.controller.specs.Skip.{ran_on_all, run_of}
-use Rattle.boundary.specs.Types.{Panel, Registers, Acted, Ran, RanOn, Reply, Entry, State, Refused}
+use Rattle.boundary.specs.Types.{Panel, Registers, Acted, Entry, State}
 use Rattle.image.specs.Image.{bytes_of, replaced}
-use Rattle.image.specs.Door.{door_of, kept_of, counts_of, counts_on_of}
+use Rattle.image.specs.Door.{door_of, kept_of}
 use Rattle.image.proofs.Images.{bytes-length, replaced-same}
-use Rattle.boundary.specs.Exports.{AccessEnd, access_end, access_done, access_by, access_bytes, RunEnd, run_end, stopping_done, stopping_by, stopping_bytes, RunOnEnd, run_on_end, run_on_done, run_on_by, run_on_bytes, PaintEnd, paint_end, paint_done, paint_by, paint_bytes, layers_word, layers_done, layers_by, layers_bytes, ResetEnd, reset_end, reset_bytes}
+use Rattle.boundary.specs.Exports.{AccessEnd, access_end, access_done, access_by, access_bytes, RunEnd, run_end, stopping_bytes, RunOnEnd, run_on_end, run_on_bytes, PaintEnd, paint_end, paint_bytes, layers_bytes, ResetEnd, reset_end, reset_bytes}
 
 module _ (p : Panel) (b mem rom : List ℕ) (q : Pair) {x : Entry} (h : x ≡ door_of p true b) where
   access-by : {y : Entry} → x ≡ y → access_by y p b mem rom q ≡ access_bytes p b mem rom q

@@ -14,7 +14,7 @@ use state::refusal::Refusal;
 use state::registers::Registers;
 use state::reply::number;
 
-// One access: the number in the low byte, the byte read in the high one.
+/// One access: the number in the low byte, the byte read in the high one.
 #[tactic(auto, unfolding(crate::specs::Exports::access_bytes))]
 #[unsafe(no_mangle)]
 pub extern "C" fn t6963c_access(
@@ -49,7 +49,7 @@ pub extern "C" fn t6963c_access(
     }
 }
 
-// At most `limit` pairs of a log, refused ones skipped and listed: the number. `counts` becomes place, pairs taken, answers written, pairs listed.
+/// At most `limit` pairs of a log, refused ones skipped and listed: the number. `counts` becomes place, pairs taken, answers written, pairs listed.
 #[tactic(auto, unfolding(crate::specs::Exports::run_on_bytes))]
 #[unsafe(no_mangle)]
 pub extern "C" fn t6963c_run(
@@ -90,7 +90,7 @@ pub extern "C" fn t6963c_run(
     }
 }
 
-// At most `limit` pairs of a log, up to the first refused: the number. `counts` becomes place, pairs taken, answers written.
+/// At most `limit` pairs of a log, up to the first refused: the number. `counts` becomes place, pairs taken, answers written.
 #[tactic(auto, unfolding(crate::specs::Exports::stopping_bytes))]
 #[unsafe(no_mangle)]
 pub extern "C" fn t6963c_run_stopping(
@@ -122,7 +122,7 @@ pub extern "C" fn t6963c_run_stopping(
     }
 }
 
-// The frame: the number.
+/// The frame: the number.
 #[tactic(auto, unfolding(crate::specs::Exports::paint_bytes))]
 #[unsafe(no_mangle)]
 pub extern "C" fn t6963c_paint(
@@ -144,15 +144,14 @@ pub extern "C" fn t6963c_paint(
     }
 }
 
-// kept: the C interface
 // Four bytes as one number, the first the lowest.
 fn layers_word(number: u8, text: u8, graphic: u8, shown: u8) -> u32
     ensures { result ≡ layers_word number text graphic shown }
 {
-    number as u32 + 256 * (text as u32) + 65536 * (graphic as u32) + 16777216 * (shown as u32)
+    u32::from_le_bytes([number, text, graphic, shown])
 }
 
-// The layers of a cell row: the number in the low byte, then text, graphic and what comes of them.
+/// The layers of a cell row: the number in the low byte, then text, graphic and what comes of them.
 #[tactic(auto, unfolding(crate::specs::Exports::layers_bytes))]
 #[unsafe(no_mangle)]
 pub extern "C" fn t6963c_layers(
@@ -178,7 +177,7 @@ pub extern "C" fn t6963c_layers(
     }
 }
 
-// The reset state.
+/// The reset state.
 #[tactic(auto, unfolding(crate::specs::Exports::reset_bytes))]
 #[unsafe(no_mangle)]
 pub extern "C" fn t6963c_reset(registers: &mut [u8]) -> u8

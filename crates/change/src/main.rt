@@ -3,49 +3,39 @@
 // is in two halves.
 #![tactic(auto)]
 
-ghost use Rattle.std.specs.Prelude.{◌≡◌, length};
-
 use difference::write::write_change;
 use ground::bytes::word;
+use printed::fill::zeroed;
 use printed::input::{byte_in, panel_in, rest_in};
-use report::{STDOUT_FILENO, has_argument, put_refusal, read_whole, report};
+use report::{finish, has_argument, put_refused, read_whole};
+use std::io::{Print, Result};
 
-// Room for the longest short stream: 24,064 bytes differ and there is a cursor. The `ensures` gives only the length.
-fn empty_room() -> [u8; 240652]
-    ensures { 240652 ≡ length result }
-{
-    [0; 240652]
-}
-
-// The pairs written, or the refusal's line; then the report.
-fn change(rt: HostRuntime, dual: bool, input: &[u8]) {
+// The pairs written, or the refusal's line: the refusal number. There is room for the longest short stream: 24,064 bytes differ and there
+// is a cursor.
+fn write_input(rt: HostRuntime, dual: bool, input: &[u8]) -> Result<u8> {
     let panel = panel_in(input, dual);
     let a = word(byte_in(input, 3), byte_in(input, 4)) as usize;
     let b = word(byte_in(input, 5), byte_in(input, 6)) as usize;
     let book = rest_in(input, 7);
-    let mut room = empty_room();
+    let mut room = zeroed::<240652>();
     match write_change(panel, book, a, b, &mut room) {
         Ok(pairs) => {
             let end = pairs.saturating_mul(2).min(room.len());
-            if io::write_all(STDOUT_FILENO, &room[..end]) {
-                report(0);
-            }
+            rt.write_all(&room[..end])?;
+            Ok(0)
         }
-        Err(refused) => {
-            let number = refused.refusal.number();
-            if put_refusal(&rt.stderr(), number, refused.place).is_ok() {
-                report(number);
-            }
-        }
+        Err(refused) => put_refused(&rt.stderr(), refused),
     }
 }
 
-// Its own in each program: the room's length and what is shown differ, and a closure would be no plainer.
+// Its own in each program: the room's length and what is shown differ, and no public function has the `requires` that a closure needs.
 // One byte past the limit shows that a book is too long.
-fn main(rt: HostRuntime) {
+fn change(rt: HostRuntime) -> Result<u8> {
     let mut input = [0u8; 32776];
-    let Ok(end) = read_whole(&mut rt.stdin(), &mut input) else {
-        return;
-    };
-    change(rt, has_argument(&rt, 1), &input[..end]);
+    let end = read_whole(&mut rt.stdin(), &mut input)?;
+    write_input(rt, has_argument(&rt, 1), &input[..end])
+}
+
+fn main(rt: HostRuntime) {
+    finish(change(rt));
 }

@@ -4,6 +4,7 @@ ghost use Rattle.codes.specs.Command.{needed_of, ends_auto, is_off};
 
 use state::registers::{Auto, Combination, DisplayBits, Move, Target};
 
+/// A command, as its code says it.
 #[derive(Clone, Copy, Debug, PartialEq, Eq)]
 pub enum Command {
     Set(Target),
@@ -21,6 +22,7 @@ pub enum Command {
 }
 
 // a function: with a bare `==` two goals of single's `command` did not close alone; the definition has this name
+/// Whether auto is off.
 pub fn is_off(auto: Auto) -> bool
     ensures { result ≡ is_off auto }
 {

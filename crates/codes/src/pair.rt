@@ -4,6 +4,7 @@ ghost use Rattle.codes.specs.Pairs.{kind_number, Kinds};
 
 use state::refusal::Refusal;
 
+/// What a pair does on the bus. A log has each as its place here, from 0 on: `Kind::Data as u8`.
 #[derive(Clone, Copy, Debug, PartialEq, Eq)]
 pub enum Kind {
     Data,
@@ -13,6 +14,7 @@ pub enum Kind {
     Tick,
 }
 
+/// A pair of the bus.
 #[derive(Clone, Copy, Debug, PartialEq, Eq)]
 pub struct Pair {
     pub kind: Kind,
@@ -20,17 +22,11 @@ pub struct Pair {
 }
 
 impl Kind {
-    // The byte that stands for it in a log.
+    /// The byte that stands for it in a log.
     pub fn number(self) -> u8
         ensures { result ≡ kind_number self }
     {
-        match self {
-            Kind::Data => 0,
-            Kind::Command => 1,
-            Kind::Read => 2,
-            Kind::Status => 3,
-            Kind::Tick => 4,
-        }
+        self as u8
     }
 }
 

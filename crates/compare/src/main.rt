@@ -5,8 +5,8 @@
 use comparison::compare::{Compared, compare};
 use ground::bytes::word;
 use printed::fill::{character_rom, empty_memory};
-use printed::input::{byte_in, number_in, panel_in, rest_in, start_in};
-use report::{has_argument, read_rom, read_whole, report};
+use printed::input::{byte_in, panel_in, rest_in, start_in};
+use report::{finish, has_argument, read_rom, read_whole};
 use std::io::Result;
 
 // The bytes of a log that count.
@@ -35,30 +35,23 @@ fn name(register: usize) -> &'static str {
     }
 }
 
-// So many entries of three numbers each: what differs and its two values; those of memory first.
-fn put_entries(rt: HostRuntime, list: &[usize], memory: usize, entries: usize) -> Result<()> {
-    for entry in 0..entries.min(list.len() / 3) {
-        let at = number_in(list, 3 * entry);
-        let one = number_in(list, 3 * entry + 1);
-        let two = number_in(list, 3 * entry + 2);
-        if entry < memory {
-            println!(rt; "memory {at:04X} {one:02X} {two:02X}")?;
-        } else {
-            println!(rt; "{} {one} {two}", name(at))?;
-        }
-    }
-    Ok(())
-}
-
-fn put_line(rt: HostRuntime, number: u8, place: usize, log: u8) -> Result<()> {
-    println!(rt; "refusal {number} place {place} log {log}")
-}
-
+// What differs and its two values, three numbers each: so many entries of memory, then those of registers. Where a line can't be written
+// the others are tried all the same.
 fn put_apart(rt: HostRuntime, apart: Compared, list: &[usize]) -> Result<()> {
-    put_line(rt, 0, 0, 0)?;
-    let entries = apart.memory.wrapping_add(apart.registers);
-    put_entries(rt, list, apart.memory, entries)?;
-    println!(rt; "dots {}", apart.dots)
+    let mut written = println!(rt; "refusal 0 place 0 log 0");
+    for entry in list.chunks_exact(3).take(apart.memory) {
+        let line = println!(rt; "memory {:04X} {:02X} {:02X}", entry[0], entry[1], entry[2]);
+        written = written.and(line);
+    }
+    for entry in list
+        .chunks_exact(3)
+        .skip(apart.memory)
+        .take(apart.registers)
+    {
+        let line = println!(rt; "{} {} {}", name(entry[0]), entry[1], entry[2]);
+        written = written.and(line);
+    }
+    written.and(println!(rt; "dots {}", apart.dots))
 }
 
 // Behind the panel two bytes, low byte first, say how long log one is; log two is the rest.
@@ -72,18 +65,17 @@ fn show(rt: HostRuntime, rom: &[u8], input: &[u8]) -> Result<u8> {
     let mut second = empty_memory();
     let mut list = [0usize; 196659];
     match compare(panel, &mut first, &mut second, rom, one, two, &mut list) {
-        Ok(apart) => {
-            put_apart(rt, apart, &list)?;
-            Ok(0)
-        }
+        Ok(apart) => put_apart(rt, apart, &list).and(Ok(0)),
         Err(refused) => {
-            put_line(rt, refused.number, refused.place, refused.log)?;
-            Ok(refused.number)
+            let number = refused.number;
+            let place = refused.place;
+            let log = refused.log;
+            println!(rt; "refusal {number} place {place} log {log}").and(Ok(number))
         }
     }
 }
 
-// Its own in each program: the room's length and what is shown differ, and a closure would be no plainer.
+// Its own in each program: the room's length and what is shown differ, and no public function has the `requires` that a closure needs.
 // Two logs run and compared: the refusal number.
 fn compare_logs(rt: HostRuntime) -> Result<u8> {
     let mut rom = character_rom();
@@ -94,7 +86,5 @@ fn compare_logs(rt: HostRuntime) -> Result<u8> {
 }
 
 fn main(rt: HostRuntime) {
-    if let Ok(number) = compare_logs(rt) {
-        report(number);
-    }
+    finish(compare_logs(rt));
 }

@@ -18,7 +18,7 @@ use Rattle.display.specs.Types.{Reply}
 use Rattle.display.proofs.OneRows.{row-length, row-dot, one-is}
 use Rattle.comparison.specs.Types.{Panel, Display}
 use Rattle.comparison.specs.Apart.{how_many, added_up, row_apart, dots_apart}
-use Rattle.comparison.specs.Ready.{Pictured, Paints}
+use Rattle.comparison.specs.Ready.{Paints}
 
 pub many-few : (n : ℕ) (test : ℕ → Bool) → how_many n test ≤ n
 unfolding how_many
@@ -87,12 +87,6 @@ pub row_first : (p : Panel) (d : Display) (mem rom : List ℕ) (r : ℕ) → Pai
 row_first p d mem rom r k out rest {l = l} h q =
     let e : l ≡ row_of p d mem rom r = ap (λ (o : Painted). o.frame) (q ∙ one-is p d mem rom r out k.panel k.state k.lent h) in
     ap (λ (n : ℕ). take n (l ++ rest)) (sym (ap length e ∙ row-length p d mem rom r)) ∙ take-append_seam l rest ∙ e
-
-pub left-paints : {p : Panel} {d e : Display} {mem memory rom : List ℕ} → Pictured p d mem e memory rom → Paints p d mem rom
-left-paints k = record { panel = k.panel; state = k.one; lent = k.first }
-
-pub right-paints : {p : Panel} {d e : Display} {mem memory rom : List ℕ} → Pictured p d mem e memory rom → Paints p e memory rom
-right-paints k = record { panel = k.panel; state = k.two; lent = k.second }
 
 pub row-size-few : (p : Panel) → valid_panel p ≡ true → {n : ℕ} → n ≡ valid_size p (row_size p) → n ≤ 80
 row-size-few p v e = omega (arith, is-size p v e, bytes-few p v)

@@ -21,14 +21,14 @@ use Rattle.entries.specs.Entered.{Entered, entered_all, entered_of}
 use Rattle.entries.proofs.Listings.{differences-few}
 use Rattle.entries.proofs.Enterings.{bytes-are, values-are}
 use Rattle.playback.proofs.Parted.{door-8}
-use Rattle.comparison.specs.Types.{Panel, Registers, Ran}
-use Rattle.whole.specs.Whole.{RanWhole, ran_whole, whole_of}
+use Rattle.comparison.specs.Types.{Panel, Registers}
+use Rattle.whole.specs.Whole.{whole_of}
 use Rattle.image.specs.Registered.{register_values}
-use Rattle.comparison.specs.Ready.{Few, Pictured, Paints}
+use Rattle.comparison.specs.Ready.{Few, Pictured, Paints, RanReset}
 use Rattle.std.proofs.Common.{Result, Ok, Err, IfErr, ◌≤◌}
 use Rattle.comparison.specs.declared.compare.Compared.{Compared as Differences}
 use Rattle.comparison.specs.declared.compare.Refused.{Refused}
-use Rattle.comparison.specs.Verdict.{Compared, ComparedAll, compared, compared_all, told_of, compared_list, memories_fit, compare_of}
+use Rattle.comparison.specs.Verdict.{Compared, ComparedAll, compared, compared_all, memories_fit, compare_of}
 use Rattle.image.proofs.Registries.{values_length}
 
 -- a run from a valid state leaves one, and a memory of its length
@@ -45,23 +45,19 @@ module _ (p : Panel) (r : Registers) (mem rom log : List ℕ) (n : ℕ) (answers
   stops-sound (no o) =
       subst (λ (x : RanAll). (valid_registers x.ran.registers ≡ true) × (length x.memory ≡ 65536)) (sym (door-8 p r mem rom log n answers (both v w) l o)) (w, long)
 
-pub whole-paints : (p : Panel) (mem rom log : List ℕ) → valid_panel p ≡ true → lent_lengths mem rom ≡ true
-    → {ran : Ran} {m : List ℕ} → ran_whole ran m ≡ whole_of p reset_registers mem rom log → Paints p ran.registers.display m rom
+whole-paints : (p : Panel) (mem rom log : List ℕ) → valid_panel p ≡ true → lent_lengths mem rom ≡ true
+    → {n : ℕ} {r : Registers} {m : List ℕ} → RanReset n (whole_of p reset_registers mem rom log) (Ok r) m → Paints p r.display m rom
 unfolding whole_of
-whole-paints p mem rom log v l {ran} {m} e =
+whole-paints p mem rom log v l {n} {r} {m} e =
     let s = stops-sound p reset_registers mem rom log (length log / 2) (zeros (length log / 2)) v refl l (ℕ_discrete (length log % 2) 0) in
     record {
       panel = v;
-      state = both_left (valid_display ran.registers.display) (valid_bus ran.registers.bus) (ap (λ (x : RanWhole). valid_registers x.ran.registers) e ∙ s.0);
-      lent = both (eq-eqb (length m) 65536 (ap (λ (x : RanWhole). length x.memory) e ∙ s.1)) (both_right (eqb (length mem) 65536) (eqb (length rom) 1024) l);
+      state = both_left (valid_display r.display) (valid_bus r.bus) (ap valid_registers (sym e.answer.1) ∙ s.0);
+      lent = both (eq-eqb (length m) 65536 (ap length e.memory ∙ s.1)) (both_right (eqb (length mem) 65536) (eqb (length rom) 1024) l);
     }
 
-pub pictured : {p : Panel} {d e : _} {mem memory rom : List ℕ} → Paints p d mem rom → Paints p e memory rom → Pictured p d mem e memory rom
+pictured : {p : Panel} {d e : _} {mem memory rom : List ℕ} → Paints p d mem rom → Paints p e memory rom → Pictured p d mem e memory rom
 pictured a b = record { panel = a.panel; one = a.state; two = b.state; first = a.lent; second = b.lent }
-
--- from reset
-pub by-reset : (p : Panel) {r : Registers} (mem rom log : List ℕ) {x : RanWhole} → r ≡ reset_registers → x ≡ whole_of p r mem rom log → x ≡ whole_of p reset_registers mem rom log
-by-reset p mem rom log h e = e ∙ ap (λ (r : Registers). whole_of p r mem rom log) h
 
 -- the entries are few: both memories are 64 KiB, and the registers 17
 pub few : {p : Panel} (r q : Registers) (list b : List ℕ) {mem memory rom a l : List ℕ} {x : Entered} → Pictured p r.display mem q.display memory rom
@@ -73,19 +69,10 @@ few r q list b {mem} {memory} {rom} {a} k f e =
       values = omega (arith, ap length f ∙ values_length r, differences-few 0 a b, values-are list (differences_from 0 mem memory) (differences_from 0 a b) e);
     }
 
--- the registers' numbers and the dots, as they are of two machines
-pub lists-both : (list one two : List ℕ) (r q : Registers) (d : ℕ) {a b l : List ℕ} {x : Entered} {y : Compared} {c : ℕ} → a ≡ register_values r → b ≡ register_values q → c ≡ d
-    → entered_all x l ≡ entered_of list (differences_from 0 one two) (differences_from 0 a b) → y ≡ told_of x c
-    → compared_all y one two l ≡ compared_list one two d (entered_of list (differences_from 0 one two) (differences_from 0 (register_values r) (register_values q)))
-lists-both list one two r q d {l = l} {x} f g h e t =
-    ap (λ (z : Compared). compared_all z one two l) t
-    ∙ ap (λ (n : ℕ). compared_list one two n (entered_all x l)) h
-    ∙ ap (compared_list one two d) (e ∙ (λ i. entered_of list (differences_from 0 one two) (differences_from 0 (f i) (g i))))
-
 -- the door
 module _ (p : Panel) (one two rom former latter list : List ℕ) {v : Bool} (i : v ≡ valid_panel p) where
   module _ (e : v ≡ true) where
-    pub compares-valid : valid_panel p ≡ true
+    compares-valid : valid_panel p ≡ true
     compares-valid = sym i ∙ e
 
     module _ (f : memories_fit one two rom ≡ true) where
@@ -94,8 +81,16 @@ module _ (p : Panel) (one two rom former latter list : List ℕ) {v : Bool} (i :
           let l = both_left (eqb (length one) 65536 && eqb (length two) 65536) (eqb (length rom) 1024) f in
           (both_left (eqb (length one) 65536) (eqb (length two) 65536) l, both_right (eqb (length one) 65536) (eqb (length two) 65536) l, both_right (eqb (length one) 65536 && eqb (length two) 65536) (eqb (length rom) 1024) f)
 
-      pub compares-lent : lent_lengths one rom ≡ true
+      compares-lent : lent_lengths one rom ≡ true
       compares-lent = both lengths.0 lengths.2
+
+      -- both logs have run, the second in a copy of the first memory
+      pub both-paint : {copy : List ℕ} → copy ≡ one → {r q : Registers} {m k : List ℕ} {a b : ℕ}
+          → RanReset a (whole_of p reset_registers one rom former) (Ok r) m → RanReset b (whole_of p reset_registers copy rom latter) (Ok q) k
+          → Pictured p r.display m q.display k rom
+      both-paint {copy} same x y =
+          pictured (whole-paints p one rom former compares-valid compares-lent x)
+          (whole-paints p copy rom latter compares-valid (ap (λ (l : List ℕ). lent_lengths l rom) same ∙ compares-lent) y)
 
 same_compared : (x y : Result Differences Refused) → IfErr x (λ r. 1 ≤ r.number) → IfErr y (λ r. 1 ≤ r.number) → compared x ≡ compared y → x ≡ y
 same_compared (Ok d) (Ok e) i j h = λ q. Ok (record { memory = (h q).memory; registers = (h q).registers; dots = (h q).dots })

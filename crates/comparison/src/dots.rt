@@ -32,12 +32,6 @@ fn count_dots(one: &[u8], two: &[u8], dots: usize) -> usize
     count
 }
 
-fn blank_row() -> [u8; 80]
-    ensures { 80 ≡ length result }
-{
-    [0; 80]
-}
-
 // A dot row at the start of eighty bytes, which the longest takes.
 fn painted_row(panel: Panel, display: Display, mem: &[u8], rom: &[u8], row: usize) -> [u8; 80]
     requires { Paints panel display mem.now rom.now }
@@ -45,7 +39,7 @@ fn painted_row(panel: Panel, display: Display, mem: &[u8], rom: &[u8], row: usiz
     ensures value { 80 ≡ length result }
 {
     let size = panel.row_size();
-    let mut out = blank_row();
+    let mut out = [0u8; 80];
     let _ = paint_one(panel, display, mem, rom, row, &mut out[..size]);
     out
 }

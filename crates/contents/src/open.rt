@@ -9,19 +9,13 @@ use super::entry::{count_at, entries_at, entry_at, entry_size, first_body, wrong
 use super::spans::{Span, Spans};
 use state::refusal::{Refusal, Refused};
 
-const NO_SPAN: Span = Span {
-    key: 0,
-    start: 0,
-    end: 0,
-};
-
 // Every entry of n, each body to begin where the last one ended, each key above the last.
 fn entries(two: bool, book: &[u8], n: u8) -> Result<Spans, Refused>
     requires { (first_body two n ≤ length book.now) × (length book.now ≤ 32768) × (n ≤ 64) }
     ensures value { opened result ≡ spans_of two (entries_from two book.now n (entries_at two) (first_body two n) 0) }
     ensures contents { Opens two (entries_from two book.now n (entries_at two) (first_body two n) 0) result }
 {
-    let mut spans = [NO_SPAN; 64];
+    let mut spans = [Span::NONE; 64];
     let mut at = entries_at(two);
     let mut start = first_body(two, n);
     let mut least: usize = 0;

@@ -9,6 +9,15 @@ pub struct Span {
     pub end: usize,
 }
 
+impl Span {
+    /// No screen: what stands behind the count.
+    pub const NONE: Span = Span {
+        key: 0,
+        start: 0,
+        end: 0,
+    };
+}
+
 // An array and a count, since there is no heap.
 /// The screens of a book in their order, at most 64, and whether it has form two. Behind the count all is 0.
 #[derive(Clone, Copy, Debug, PartialEq, Eq)]

@@ -17,7 +17,7 @@ use Rattle.ground.proofs.Tests.{cond_has, both, both_left, both_right}
 use Rattle.ground.proofs.Stores.{stored-length}
 use Rattle.state.specs.State.{valid_panel, none}
 use Rattle.codes.specs.Command.{is_off}
-use Rattle.controller.specs.Types.{Panel, Display, Auto, Off, Write, Read, Bus, Registers, RanOn, Turned, Noted, Told}
+use Rattle.controller.specs.Types.{Panel, Display, Auto, Off, Write, Read, Bus, Registers, RanOn, Noted, Told}
 use Rattle.usual.specs.Done.{drawn, asked}
 use Rattle.usual.specs.declared.ask.Asked.{Asked as Given}
 use Rattle.effects.specs.Effect.{with_bus, with_pointer, with_auto, with_pending, with_phase, pushed, is_write}
@@ -27,7 +27,7 @@ use Rattle.controller.specs.Run.{pairs_of, Standing, Turn, went, halted, turn_of
 use Rattle.controller.specs.Skip.{Skipping, passed_by, skip_by, skip_step, ran_on_all, ran_on_of}
 use Rattle.usual.specs.Ready.{Tells, Draws, Asks}
 use Rattle.usual.proofs.Tells.{leaves}
-use Rattle.controller.specs.Ready.{Runs, Blocked, pairs_from, data_of, standing, standing_on, TurnedAll, turned_all, turned_of, NotedAll, noted_all, noted_of}
+use Rattle.controller.specs.Ready.{Runs, Blocked, pairs_from, data_of, standing, standing_on, Turned, TurnedAll, turned_all, turned_of, NotedAll, noted_all, noted_of}
 use Rattle.controller.proofs.Blocks.{pair_at, pairs-behind, write-only, block_run}
 use Rattle.controller.proofs.Laws.{Sounds, sounds-valid, step-sound}
 use Rattle.controller.proofs.Splits.{projected}
@@ -81,6 +81,11 @@ pub running : (p : Panel) (on : Bool) (rom log : List ℕ) (total : ℕ) (s : St
     → Running p on rom log total (standing_on s skips 0 0) s skips 0 0
 running p on rom log total s skips k =
     record { goes_on = going (skip_step on (step_of p rom)) (SoundOn (length skips)) (skip-sound p rom on (length skips)) log total (standing_on s skips 0 0) (record { sound = k; long = refl; fits = omega arith }) }
+
+-- a pair that is taken is not listed
+pub unlisted : (on : Bool) (place listed : ℕ) (skips : List ℕ) → noted_all (record { listed = listed; number = 0 }) skips ≡ noted_of on 0 place skips listed
+unlisted true place listed skips = refl
+unlisted false place listed skips = refl
 
 -- what the code's turn and note come to: the larger machine's turn
 pub data Outcome (s : Standing (Skipping Machine)) : Turn (Skipping Machine) → TurnedAll → NotedAll → Type 0 where
@@ -179,13 +184,14 @@ module _ {p : Panel} {on : Bool} {rom log : List ℕ} {total : ℕ} {s₀ : Stan
         → Running p on rom log total s₀ (record { machine = m; answers = set s.answers s.given b; given = s.given + 1 }) skips listed (i + 1)
     running-answers n e x r = record { goes_on = going-answers steps Kind (skip-sound p rom on _) g.goes_on h l n e (ap (skip_by on (standing_on s skips listed i).machine) x) r }
 
-    module _ {t : Turned} {m a : List ℕ} {x : Noted} {b : List ℕ}
+    module _ {t : Turned} {m a : List ℕ} {x : Noted} {b : List ℕ} {number : ℕ}
         (e : turned_all t m a ≡ turned_of s (turn_of s (step_of p rom s.machine (pair_at log i))))
-        (f : noted_all x b ≡ noted_of on t.number i skips listed) where
+        (its : number ≡ t.number)
+        (f : noted_all x b ≡ noted_of on number i skips listed) where
       comes : Outcome (standing_on s skips listed i) (turn_of (standing_on s skips listed i) (steps (standing_on s skips listed i).machine (pair_at log i))) (turned_all t m a) (noted_all x b)
       comes =
           let o = outcome on (standing_on s skips listed i) (step_of p rom s.machine (pair_at log i)) (step-number p rom s.machine (get_or log (2 * i) 0) (get_or log (2 * i + 1) 0)) in
-          subst (λ (y : NotedAll). Outcome (standing_on s skips listed i) (turn_of (standing_on s skips listed i) (steps (standing_on s skips listed i).machine (pair_at log i))) (turned_all t m a) y) (sym f)
+          subst (λ (y : NotedAll). Outcome (standing_on s skips listed i) (turn_of (standing_on s skips listed i) (steps (standing_on s skips listed i).machine (pair_at log i))) (turned_all t m a) y) (sym (f ∙ ap (λ (n : ℕ). noted_of on n i skips listed) its))
           (subst (λ (y : TurnedAll). Outcome (standing_on s skips listed i) (turn_of (standing_on s skips listed i) (steps (standing_on s skips listed i).machine (pair_at log i))) y (noted_of on y.turned.number i skips listed)) (sym e) o)
 
       -- a pair taken, or listed

@@ -2,7 +2,7 @@
 use Rattle.std.specs.Prelude.{◌≡◌, Bool, true, cond, List, ℕ, Result, Ok, Err}
 use Rattle.state.specs.State.{valid_panel, valid_registers}
 use Rattle.display.specs.Frame.{lent_lengths}
-use Rattle.controller.specs.Types.{Panel, Registers, Turned}
+use Rattle.controller.specs.Types.{Panel, Registers, Taken}
 use Rattle.controller.specs.Access.{Accessed}
 use Rattle.effects.specs.Machine.{Machine, machine}
 use Rattle.controller.specs.Run.{Standing, Turn, went, halted}
@@ -27,6 +27,17 @@ abbrev pub standing_on : {M : Type 0} → Standing M → List ℕ → ℕ → �
 standing_on s skips listed place =
     record { machine = record { machine = s.machine; skips = skips; listed = listed; place = place }; answers = s.answers; given = s.given }
 
+-- one pair of a run: the registers then, the answers so far, a number, 0 where it is taken
+pub record Turned : Type 0 where
+  pub registers : Registers
+  pub given : ℕ
+  pub number : ℕ
+
+-- what a result says of it: a pair that is refused leaves registers and answers as they were
+abbrev pub turned : Registers → ℕ → Result Taken Refusal → Turned
+turned r given (Ok t) = record { registers = t.registers; given = t.given; number = 0 }
+turned r given (Err e) = record { registers = r; given = given; number = number_of e }
+
 -- one pair of a run, the display memory and the answer buffer then
 pub record TurnedAll : Type 0 where
   pub turned : Turned
@@ -42,8 +53,3 @@ turned_of s (went t) =
     turned_all (record { number = 0; registers = t.machine.registers; given = t.given }) t.machine.memory t.answers
 turned_of s (halted n) =
     turned_all (record { number = n; registers = s.machine.registers; given = s.given }) s.machine.memory s.answers
-
--- the turn that a result stands for: the answers so far, or why the pair is not taken
-abbrev pub turn_result : Result ℕ Refusal → Registers → List ℕ → List ℕ → Turn Machine
-turn_result (Ok given) r mem answers = went (standing r mem answers given)
-turn_result (Err e) r mem answers = halted (number_of e)

@@ -22,6 +22,6 @@ pub use Rattle.state.specs.Replies.{Acted}
 pub use Rattle.controller.specs.declared.run.Ran.{Ran}
 pub use Rattle.controller.specs.declared.run.RanOn.{RanOn}
 pub use Rattle.turns.specs.declared.note.Noted.{Noted}
-pub use Rattle.controller.specs.declared.turn.Turned.{Turned}
+pub use Rattle.turns.specs.declared.taken.Taken.{Taken}
 pub use Rattle.usual.specs.declared.tell.Told.{Told}
 pub use Rattle.usual.specs.Done.{Drawn, Asked}

@@ -7,8 +7,10 @@ ghost use Rattle.controller.specs.Ready.{Runs};
 
 use super::turn::turn;
 use codes::command::is_off;
+use codes::pair::Kind;
 use effects::effect::is_write;
 use state::panel::Panel;
+use state::refusal::Refusal;
 use state::registers::Registers;
 use turns::block::{block, passed};
 use turns::note::note;
@@ -17,7 +19,8 @@ use usual::draw::draw;
 use usual::part::{datum, emptied, freed, ticked};
 use usual::tell::tell;
 
-// A number and place, the pairs taken, the answers written, the registers after.
+// A number, not a `Refusal`: playback's `play`, `play_on` and `close` (docs/PROMISES.md) take a `Ran`, and answer for any number in it.
+/// What a run answers: the number of the refusal that ended it, or 0, and its place; the pairs taken, the answers written, the registers then.
 #[derive(Clone, Copy, Debug, PartialEq, Eq)]
 pub struct Ran {
     pub number: u8,
@@ -27,14 +30,14 @@ pub struct Ran {
     pub registers: Registers,
 }
 
-// A run that goes on after a refusal: what a run answers, and the pairs listed.
+/// What a run that goes on behind refusals answers: as any run, and the pairs listed.
 #[derive(Clone, Copy, Debug, PartialEq, Eq)]
 pub struct RanOn {
     pub ran: Ran,
     pub skipped: usize,
 }
 
-// What a run answers, part by part.
+/// What a run answers, part by part.
 pub fn ended(
     number: u8,
     place: usize,
@@ -57,7 +60,8 @@ pub fn ended(
     }
 }
 
-// The first `total` pairs of a log, on a machine that is known to be valid; one loop for the run that stops and the one that skips.
+// The first `total` pairs of a log, on a machine that is known to be valid; one loop for the run that stops and the one that skips, as
+// `either_run` and `noted_of` have it. What is lent comes one by one, as the two runs take it, and a struct would be taken apart at once.
 fn pairs(
     panel: Panel,
     registers: Registers,
@@ -83,19 +87,19 @@ fn pairs(
         let kind = log[2 * i];
         let byte = log[2 * i + 1];
         let auto = bus.auto;
-        if (kind == 0) & is_write(auto) {
+        if (kind == Kind::Data as u8) & is_write(auto) {
             let end = block(mem, bus.pointer, log, i, total);
             bus = passed(bus, end - i);
             i = end;
             continue;
         }
         let off = is_off(auto);
-        if (kind == 0) & off {
+        if (kind == Kind::Data as u8) & off {
             bus = datum(bus, byte);
             i += 1;
             continue;
         }
-        let quiet = (kind == 1) & off;
+        let quiet = (kind == Kind::Command as u8) & off;
         let told = tell(bus, mem, quiet, byte);
         if told.done {
             bus = told.bus;
@@ -108,7 +112,7 @@ fn pairs(
             i += 1;
             continue;
         }
-        if (kind == 1) & (byte == 0xb2) {
+        if (kind == Kind::Command as u8) & (byte == 0xb2) {
             bus = freed(bus);
             i += 1;
             continue;
@@ -119,12 +123,12 @@ fn pairs(
             i += 1;
             continue;
         }
-        if kind == 4 {
+        if kind == Kind::Tick as u8 {
             display = ticked(display);
             i += 1;
             continue;
         }
-        let turned = turn(
+        match turn(
             panel,
             Registers { display, bus },
             mem,
@@ -133,15 +137,23 @@ fn pairs(
             given,
             kind,
             byte,
-        );
-        display = turned.registers.display;
-        bus = turned.registers.bus;
-        given = turned.given;
-        let noted = note(skipping, turned.number, i, skips, listed);
-        let number = noted.number;
-        listed = noted.listed;
-        if number != 0 {
-            return ended(number, i, i, given, Registers { display, bus }, listed);
+        ) {
+            Ok(taken) => {
+                display = taken.registers.display;
+                bus = taken.registers.bus;
+                given = taken.given;
+                i += 1;
+                // not by the arms' common end: single stores then took 2.8 ns a pair for 2.4
+                continue;
+            }
+            Err(refusal) => {
+                let noted = note(skipping, refusal.number(), i, skips, listed);
+                let number = noted.number;
+                listed = noted.listed;
+                if number != 0 {
+                    return ended(number, i, i, given, Registers { display, bus }, listed);
+                }
+            }
         }
         i += 1;
     }
@@ -164,15 +176,15 @@ fn enter(
 {
     let valid = panel.valid() & registers.valid();
     if !valid {
-        return ended(1, 0, 0, 0, registers, 0);
+        return ended(Refusal::Invalid.number(), 0, 0, 0, registers, 0);
     }
     let fits = (mem.len() == 65536) & (rom.len() == 1024);
     if !fits {
-        return ended(2, 0, 0, 0, registers, 0);
+        return ended(Refusal::WrongLength.number(), 0, 0, 0, registers, 0);
     }
     let whole = log.len() / 2;
     if log.len() % 2 != 0 {
-        return ended(8, whole, 0, 0, registers, 0);
+        return ended(Refusal::OddLength.number(), whole, 0, 0, registers, 0);
     }
     let total = limit.min(whole);
     pairs(
@@ -180,7 +192,9 @@ fn enter(
     )
 }
 
-// The ordinary run: it lists the pairs that are refused and goes on behind them.
+/// At most `limit` pairs of a log. A refused pair is listed in `skips` by number and place, and the run goes on behind it; a read without room
+/// for its answer ends it, as `NoRoomForAnswer`, and so does a refused pair without room in the list, as `NoRoomForSkipped`. Answers stand in the
+/// order of their reads. `Invalid`, `WrongLength` of memory (65,536) or ROM (1,024), and `OddLength` with the log's whole pairs leave all as it was.
 pub fn run(
     panel: Panel,
     registers: Registers,
@@ -196,7 +210,7 @@ pub fn run(
     enter(panel, registers, mem, rom, log, limit, answers, skips, true)
 }
 
-// The run that stops at the first pair refused.
+/// At most `limit` pairs of a log, up to the first that is refused, whose place is its number in the log; before that the refusals of `run`.
 pub fn run_stopping(
     panel: Panel,
     registers: Registers,

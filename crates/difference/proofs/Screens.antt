@@ -1,13 +1,13 @@
 -- The two screens: what their planes answered, and what is answered then.
 use mathlib.Core.Path.{◌≡◌, refl, ap, sym, subst, ◌∙◌}
 use mathlib.Core.Bool.{Bool, true, false, cond}
-use mathlib.Core.List.{List}
+use mathlib.Core.List.{List, ◌++◌}
 use mathlib.Core.Logic.{⊎_elim}
 use Prim.Native.Nat.{ℕ, ◌-◌, ◌*◌, ◌≤◌}
 use native.Mathlib.Nat.{mul_assoc}
 use native.Mathlib.Omega.{arith}
 use lib.ListN.{length, take, replicate, length-replicate}
-use lib.Seq.{length-take-le}
+use lib.Seq.{length-take-le, take-append_seam}
 use borrow.Author.Tests.{eq-eqb}
 use Rattle.ground.proofs.Tests.{both}
 use Rattle.state.specs.declared.panel.Panel.{Panel}
@@ -33,26 +33,24 @@ use Rattle.picture.specs.Picture.{Picture, blank, applied, applied_all, picture_
 use Rattle.picture.specs.Planned.{Planned, Plan, styled, planned_all, refused_plan, plan_screen, areas_fit, planes_of}
 use Rattle.picture.specs.declared.style.Style.{Style}
 use Rattle.picture.specs.Ready.{Sized, picture_with}
-use Rattle.picture.proofs.Bodies.{all-sized, blank-sized}
-use Rattle.difference.specs.Change.{write_short, change_to, change_screens, unless_asked, change_of}
+use Rattle.difference.specs.Change.{write_short, change_screens, unless_asked, change_of}
 use Rattle.difference.specs.declared.changes.Planes.{Planes}
-use Rattle.difference.specs.Differing.{LaidRange, Between, PlanesFor}
+use Rattle.difference.specs.declared.write.Drawn.{Drawn}
+use Rattle.difference.specs.Differing.{LaidRange, Between, picture_from}
+use Rattle.difference.specs.Drawing.{Three, planes_now, planes_in, picture_in, DrawnScreen}
 
 -- part of a plane of zeros
 pub cut : (n m : ℕ) → n ≤ m → length {A = ℕ} (take n (replicate m 0)) ≡ n
 cut n m h = length-take-le n (replicate m 0) (rw (length-replicate {A = ℕ} m 0) h)
 
 -- the parts lent are the panel's
-pub planes-for : {p : Panel} {n : ℕ} {g t h : List ℕ} → valid_panel p ≡ true → n ≡ valid_size p (cell_count p) → length g ≡ 8 * n → length t ≡ n → length h ≡ 1024 → PlanesFor p g t h
-planes-for {p} {n} v e i j k =
+pub lent-sized : {p : Panel} {n : ℕ} {g t h : List ℕ} → valid_panel p ≡ true → n ≡ valid_size p (cell_count p) → length g ≡ 8 * n → length t ≡ n → length h ≡ 1024 → Sized p g t h
+lent-sized {p} {n} v e i j k =
     let s : n ≡ p.lines * p.columns = is-size p v e in
     record {
-      valid = v;
-      sized = record {
-        graphic = omega (arith, i, s, mul_assoc 8 p.lines p.columns);
-        codes = j ∙ s;
-        glyphs = k;
-      };
+      graphic = omega (arith, i, s, mul_assoc 8 p.lines p.columns);
+      codes = j ∙ s;
+      glyphs = k;
     }
 
 -- a screen's cursor is in range
@@ -90,87 +88,83 @@ module _ (p : Panel) where
           let f : m ≡ n = same e in
           ⊎_elim (λ i. let y : ⊥ = omega arith in y) (λ i. let y : ⊥ = omega arith in y) (asked-number book key d)
 
--- a screen whose planes were answered
-pub record PlannedScreen (p : Panel) (book : List ℕ) (key : ℕ) (r : Style) (g t h : List ℕ) : Type 0 where
-  pub os : List Operation
-  pub whole : screen_of p book key ≡ screen os
-  pub is : picture_with g t h r ≡ picture_of p os
+-- planes at the front of room for any panel's
+front : {n : ℕ} (xs ys : List ℕ) → length xs ≡ n → take n (xs ++ ys) ≡ xs
+front {n} xs ys e = ap (λ (m : ℕ). take m (xs ++ ys)) (sym e) ∙ take-append_seam xs ys
 
-module _ (p : Panel) (book : List ℕ) (key : ℕ) {g t h : List ℕ} (k : PlanesFor p g t h) where
+module _ (p : Panel) (book : List ℕ) (key : ℕ) {g t h : List ℕ} (v : valid_panel p ≡ true) (k : Sized p g t h) where
   fitting : areas_fit p g t h ≡ true
   fitting =
-      both (both (eq-eqb (length g) (8 * p.lines * p.columns) k.sized.graphic) (eq-eqb (length t) (p.lines * p.columns) k.sized.codes))
-      (eq-eqb (length h) 1024 k.sized.glyphs)
+      both (both (eq-eqb (length g) (8 * p.lines * p.columns) k.graphic) (eq-eqb (length t) (p.lines * p.columns) k.codes))
+      (eq-eqb (length h) 1024 k.glyphs)
 
   module _ {g₁ t₁ h₁ : List ℕ} where
     planned-is : {r : Planned} → planned_all r g₁ t₁ h₁ ≡ planes_of p book key g t h → planned_all r g₁ t₁ h₁ ≡ plan_screen p g t h (screen_of p book key)
     unfolding planes_of
     planned-is x =
         x
-        ∙ ap (λ (v : Bool). cond v (cond (areas_fit p g t h) (plan_screen p g t h (screen_of p book key)) (planned_all (refused_plan 2 0) g t h)) (planned_all (refused_plan 1 0) g t h)) k.valid
-        ∙ ap (λ (v : Bool). cond v (plan_screen p g t h (screen_of p book key)) (planned_all (refused_plan 2 0) g t h)) fitting
+        ∙ ap (λ (b : Bool). cond b (cond (areas_fit p g t h) (plan_screen p g t h (screen_of p book key)) (planned_all (refused_plan 2 0) g t h)) (planned_all (refused_plan 1 0) g t h)) v
+        ∙ ap (λ (b : Bool). cond b (plan_screen p g t h (screen_of p book key)) (planned_all (refused_plan 2 0) g t h)) fitting
 
     -- refused with its number and place
-    planned-refused : (e : Turned) → planned_all (styled (Err e)) g₁ t₁ h₁ ≡ planes_of p book key g t h → screen_of p book key ≡ refused (number_of e.refusal) e.place
+    pub planned-refused : (e : Turned) → planned_all (styled (Err e)) g₁ t₁ h₁ ≡ planes_of p book key g t h → screen_of p book key ≡ refused (number_of e.refusal) e.place
     planned-refused e x = go (screen_of p book key) (planned-is x)
       where
         go : (s : Screen) → planned_all (styled (Err e)) g₁ t₁ h₁ ≡ plan_screen p g t h s → s ≡ refused (number_of e.refusal) e.place
         go (screen os) d = absurd (not_zero e.refusal (ap (λ (y : Plan). y.planned.number) d))
         go (refused n place) d = sym (ap (λ (y : Plan). refused y.planned.number y.planned.place) d)
 
-    pub between-err : (e : Turned) → planned_all (styled (Err e)) g₁ t₁ h₁ ≡ planes_of p book key g t h → (room : List ℕ) (a : Planes)
-        → wrote_all (written_reply (Err e)) room ≡ change_to p room a.graphic.now a.codes.now a.glyphs.now (screen_of p book key)
-    between-err e x room a = ap (change_to p room a.graphic.now a.codes.now a.glyphs.now) (sym (planned-refused e x))
+    module _ (r : Style) (x : planned_all (styled (Ok r)) g₁ t₁ h₁ ≡ planes_of p book key g t h) (z : Sized p g₁ t₁ h₁) (g₂ t₂ : List ℕ) where
+      abbrev d : Drawn
+      d = record { graphic = g₁ ++ g₂; codes = t₁ ++ t₂; glyphs = h₁; style = r }
 
-    pub from-err : (e : Turned) → planned_all (styled (Err e)) g₁ t₁ h₁ ≡ planes_of p book key g t h → (room : List ℕ) (other : Screen)
-        → wrote_all (written_reply (Err e)) room ≡ change_screens p room (screen_of p book key) other
-    from-err e x room other = ap (λ (s : Screen). change_screens p room s other) (sym (planned-refused e x))
+      same : picture_in p d ≡ picture_with g₁ t₁ h₁ r
+      same i = picture_with (front g₁ g₂ z.graphic i) (front t₁ t₂ z.codes i) h₁ r
 
-    module _ (r : Style) (x : planned_all (styled (Ok r)) g₁ t₁ h₁ ≡ planes_of p book key g t h) where
-      pub planned-screen : PlannedScreen p book key r g₁ t₁ h₁
-      planned-screen = go (screen_of p book key) refl (planned-is x)
+      pub planned-drawn : DrawnScreen p (screen_of p book key) d
+      planned-drawn = go (screen_of p book key) refl (planned-is x)
         where
-          go : (s : Screen) → screen_of p book key ≡ s → planned_all (styled (Ok r)) g₁ t₁ h₁ ≡ plan_screen p g t h s → PlannedScreen p book key r g₁ t₁ h₁
-          go (screen os) e d =
+          go : (s : Screen) → screen_of p book key ≡ s → planned_all (styled (Ok r)) g₁ t₁ h₁ ≡ plan_screen p g t h s → DrawnScreen p (screen_of p book key) d
+          go (screen os) e y =
+              let is : picture_in p d ≡ picture_of p os =
+              same ∙ ap (λ (q : Plan). record { graphic = q.graphic; codes = q.codes; glyphs = q.glyphs; combination = q.planned.combination; cursor = q.planned.cursor }) y in
               record {
                 os = os;
                 whole = e;
-                is = ap (λ (y : Plan). record { graphic = y.graphic; codes = y.codes; glyphs = y.glyphs; combination = y.planned.combination; cursor = y.planned.cursor }) d;
+                is = is;
+                sized = subst (λ (q : Picture). Sized p q.graphic q.codes q.glyphs) (sym same) z;
+                range = subst (λ (q : Picture). LaidRange p q.cursor) (sym is) (laid-range p book key e);
               }
-          go (refused n place) e d = absurd (refused-number p book key e (sym (ap (λ (y : Plan). y.planned.number) d)))
+          go (refused n place) e y = absurd (refused-number p book key e (sym (ap (λ (q : Plan). q.planned.number) y)))
 
-      planned-sized : Sized p g₁ t₁ h₁
-      unfolding picture_of
-      planned-sized =
-          let s = planned-screen in
-          subst (λ (a : Picture). Sized p a.graphic a.codes a.glyphs) (sym s.is) (all-sized p s.os (blank p) (blank-sized p))
+-- two screens, the first one refused, the second, or both drawn
+module _ (p : Panel) (room : List ℕ) {s : Screen} (t : Screen) where
+  pub first-refused : (e : Turned) → s ≡ refused (number_of e.refusal) e.place → wrote_all (written_reply (Err e)) room ≡ change_screens p room s t
+  first-refused e x = ap (λ (y : Screen). change_screens p room y t) (sym x)
 
-      -- as screen b
-      pub between-ready : (a : Planes) → PlanesFor p a.graphic.now a.codes.now a.glyphs.now → Between p a (picture_with g₁ t₁ h₁ r)
-      between-ready a o =
-          let s = planned-screen in
+  module _ {d : Drawn} (k : DrawnScreen p s d) where
+    pub second-refused : (e : Turned) → t ≡ refused (number_of e.refusal) e.place → wrote_all (written_reply (Err e)) room ≡ change_screens p room s t
+    second-refused e x = λ i. change_screens p room (sym k.whole i) (sym x i)
+
+    module _ {e : Drawn} (l : DrawnScreen p t e) (a b : Planes) (m : planes_now a ≡ planes_in p d) (n : planes_now b ≡ planes_in p e) where
+      shown : picture_from b e.style ≡ picture_in p e
+      shown = ap (λ (x : Three). picture_with x.graphic x.codes x.glyphs e.style) n
+
+      pub both-drawn : valid_panel p ≡ true → Between p a (picture_from b e.style)
+      both-drawn v =
           record {
-            valid = k.valid;
-            old = o.sized;
-            new = planned-sized;
-            range = subst (λ (q : Picture). LaidRange p q.cursor) (sym s.is) (laid-range p book key s.whole);
+            valid = v;
+            old = subst (λ (x : Three). Sized p x.graphic x.codes x.glyphs) (sym m) k.sized;
+            new = subst (λ (q : Picture). Sized p q.graphic q.codes q.glyphs) (sym shown) l.sized;
+            range = subst (λ (q : Picture). LaidRange p q.cursor) (sym shown) l.range;
           }
 
-      pub between-written : (room : List ℕ) (a : Planes) {w : Wrote} → w ≡ write_short p a.graphic.now a.codes.now a.glyphs.now (picture_with g₁ t₁ h₁ r) room
-          → w ≡ change_to p room a.graphic.now a.codes.now a.glyphs.now (screen_of p book key)
-      between-written room a e =
-          let s = planned-screen in
-          e ∙ ap (λ (q : Picture). write_short p a.graphic.now a.codes.now a.glyphs.now q room) s.is ∙ ap (change_to p room a.graphic.now a.codes.now a.glyphs.now) (sym s.whole)
-
-      -- as screen a
-      pub from-ready : PlanesFor p g₁ t₁ h₁
-      from-ready = record { valid = k.valid; sized = planned-sized }
-
-      pub from-written : (room : List ℕ) (other : Screen) {w : Wrote} → w ≡ change_to p room g₁ t₁ h₁ other → w ≡ change_screens p room (screen_of p book key) other
-      from-written room other e =
-          let s = planned-screen in
-          e ∙ ap (λ (a : Picture). change_to p room a.graphic a.codes a.glyphs other) s.is
-          ∙ ap (λ (y : Screen). change_screens p room y other) (sym s.whole)
+      pub both-written : {w : Wrote} → w ≡ write_short p a.graphic.now a.codes.now a.glyphs.now (picture_from b e.style) room → w ≡ change_screens p room s t
+      both-written x =
+          x
+          ∙ (λ i. write_short p (m i).graphic (m i).codes (m i).glyphs ((shown ∙ l.is) i) room)
+          ∙ ap (λ (q : Picture). write_short p q.graphic q.codes q.glyphs (picture_of p l.os) room) k.is
+          ∙ (λ i. change_screens p room (sym k.whole i) (sym l.whole i))
 
 -- the tests at the door
 module _ (p : Panel) (book : List ℕ) (a b : ℕ) (room : List ℕ) {v : Bool} (i : v ≡ valid_panel p) where

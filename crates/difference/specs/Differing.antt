@@ -42,8 +42,3 @@ pub record Between (p : Panel) (a : Planes) (b : Picture) : Type 0 where
 pub record BetweenRoomy (p : Panel) (a : Planes) (b : Picture) (s : Stream) : Type 0 where
   pub both : Between p a b
   pub fits : RoomFor (count_over a.graphic.now a.codes.now a.glyphs.now b) s
-
--- planes lent for a valid panel
-pub record PlanesFor (p : Panel) (g t h : List ℕ) : Type 0 where
-  pub valid : valid_panel p ≡ true
-  pub sized : Sized p g t h

@@ -1,3 +1,4 @@
 pub mod Short
 pub mod Change
 pub mod Differing
+pub mod Drawing

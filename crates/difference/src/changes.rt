@@ -16,7 +16,7 @@ use writer::homes::{Homes, text_home};
 use writer::put::Stream;
 
 /// The planes of a picture: 8·C·L graphic bytes, C·L text codes and 1,024 glyph bytes.
-#[derive(Clone, Copy)]
+#[derive(Drop)]
 pub(crate) struct Planes<'a> {
     pub graphic: &'a [u8],
     pub codes: &'a [u8],

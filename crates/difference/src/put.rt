@@ -16,8 +16,7 @@ pub(crate) fn put_change(stream: &mut Stream, address: u16, byte: u8)
     requires { RoomFor 5 stream.old }
     ensures { Puts stream.old (change_at address byte) stream.new }
 {
-    let low = (address % 256) as u8;
-    let high = (address / 256) as u8;
+    let [low, high] = address.to_le_bytes();
     stream.add(&[
         datum(low),
         datum(high),

@@ -62,47 +62,30 @@ fn has_dots(display: Display) -> bool
 }
 
 // The graphic's dots given out, as far as they are asked for.
-fn give_graphic(
-    panel: Panel,
-    display: Display,
-    mem: &[u8],
-    row: usize,
-    column: usize,
-    graphic: &mut [u8],
-)
-    requires fact { (panel.width ≡ 6) ⊎ (panel.width ≡ 8) }
-    requires mem_len { length mem.now ≡ 65536 }
-    ensures { graphic.new ≡ build (length graphic.old) (λ j. graphic_dots panel display mem.now row (column + j)) }
+fn give_graphic(scene: &Scene, row: usize, column: usize, graphic: &mut [u8])
+    ensures { graphic.new ≡ build (length graphic.old) (λ j. graphic_dots scene.now.panel scene.now.display scene.now.mem.now row (column + j)) }
 {
+    let display = scene.display;
     if has_dots(display) {
         let at = display.graphic.address(row, column);
-        read_round(panel.width, mem, at, graphic);
+        read_round(scene.panel.width, scene.mem, at, graphic);
         return;
     }
     clear(graphic);
 }
 
 // The graphic's dots, mixed with the text's that stand there.
-fn lay_graphic(
-    panel: Panel,
-    display: Display,
-    mem: &[u8],
-    row: usize,
-    column: usize,
-    cells: &mut [u8],
-)
-    requires { length mem.now ≡ 65536 }
-    ensures { GraphicOver panel display mem.now row column cells.old cells.new }
+fn lay_graphic(scene: &Scene, row: usize, column: usize, cells: &mut [u8])
+    ensures { GraphicOver scene.now.panel scene.now.display scene.now.mem.now row column cells.old cells.new }
 {
+    let display = scene.display;
     if has_dots(display) {
         let at = display.graphic.address(row, column);
-        let combination = display.combination;
         mix_round(
-            display.bits.text,
-            display.bits.graphic,
-            combination,
-            panel.width,
-            mem,
+            display.bits,
+            display.combination,
+            scene.panel.width,
+            scene.mem,
             at,
             cells,
         );
@@ -126,6 +109,6 @@ pub(crate) fn lay(
 {
     lay_text(scene, row, column, shown);
     give(shown, text);
-    give_graphic(scene.panel, scene.display, scene.mem, row, column, graphic);
-    lay_graphic(scene.panel, scene.display, scene.mem, row, column, shown);
+    give_graphic(scene, row, column, graphic);
+    lay_graphic(scene, row, column, shown);
 }

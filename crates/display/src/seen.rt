@@ -11,6 +11,7 @@ use state::panel::Panel;
 use state::refusal::Refusal;
 use state::registers::Display;
 
+// Lists and state as parameters: docs/PROMISES.md names this, and each list is lent by whoever asks.
 /// The layers of any dot row from any column on, into three lists of one length, a cell each: memory of 65,536 bytes, ROM of 1,024. The
 /// formulas go on modulo 65,536 past the panel. Invalid, then WrongLength, and the lists are then as they were.
 pub fn row_layers(

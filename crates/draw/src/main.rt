@@ -12,8 +12,9 @@ use printed::fill::character_rom;
 use printed::input::{byte_in, panel_in, rest_in};
 use printed::screen::print_picture;
 use printed::told::Told;
-use report::{STDOUT_FILENO, has_argument, read_rom, read_whole, report};
+use report::{finish, has_argument, read_rom, read_whole};
 use state::panel::Panel;
+use std::io::{Print, Result};
 
 // So many parameters: it exists because they are parts of arrays that its caller owns.
 // A screen's picture as text, drawn in planes and a frame of its panel's lengths; in the phase that is off where its byte is 0.
@@ -75,21 +76,20 @@ fn draw_text(dual: bool, rom: &[u8], input: &[u8], out: &mut [u8]) -> Told
     )
 }
 
-// Its own in each program: the room's length and what is shown differ, and a closure would be no plainer.
-// One byte past the limit shows that a book is too long.
-fn main(rt: HostRuntime) {
+// Its own in each program: the room's length and what is shown differ, and no public function has the `requires` that a closure needs.
+// The text printed: the screen's refusal number. One byte past the limit shows that a book is too long.
+fn show(rt: HostRuntime) -> Result<u8> {
     let mut rom = character_rom();
-    if read_rom(&mut rt.stdin(), has_argument(&rt, 1), &mut rom).is_err() {
-        return;
-    }
+    read_rom(&mut rt.stdin(), has_argument(&rt, 1), &mut rom)?;
     let mut input = [0u8; 32775];
-    let Ok(end) = read_whole(&mut rt.stdin(), &mut input) else {
-        return;
-    };
+    let end = read_whole(&mut rt.stdin(), &mut input)?;
     let mut out = [0u8; 196608];
     let told = draw_text(has_argument(&rt, 2), &rom, &input[..end], &mut out);
     let count = told.count;
-    if io::write_all(STDOUT_FILENO, &out[..count]) {
-        report(told.number);
-    }
+    rt.write_all(&out[..count])?;
+    Ok(told.number)
+}
+
+fn main(rt: HostRuntime) {
+    finish(show(rt));
 }

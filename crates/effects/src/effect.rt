@@ -9,9 +9,7 @@ use state::registers::{Auto, Bus, Move, Pending, Registers, Target};
 pub fn with_auto(bus: Bus, auto: Auto) -> Bus
     ensures { result ≡ with_auto bus auto }
 {
-    let mut next = bus;
-    next.auto = auto;
-    next
+    Bus { auto, ..bus }
 }
 
 /// The pointer moved: it runs from FFFFH to 0000H and back.

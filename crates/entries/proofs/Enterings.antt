@@ -6,7 +6,7 @@ use mathlib.Core.Logic.{◌⊎◌, inl, inr}
 use Prim.Native.Nat.{ℕ, zero, suc, ◌+◌, ◌-◌, ◌*◌, ◌/◌, ◌<◌, ◌≤◌, min}
 use native.Mathlib.Omega.{arith}
 use lib.Dec.{ltb, eqb}
-use lib.ListN.{length, take, length-take}
+use lib.ListN.{length, take}
 use lib.Seq.{sets}
 use borrow.Author.Tests.{lt-ltb, le-ltb, ltb-true, ltb-false}
 use Rattle.ground.proofs.Tests.{either}
@@ -26,9 +26,6 @@ apart-cut i zero (x ∷ xs) (y ∷ ys) e = absurd (omega arith)
 apart-cut i (suc n) (x ∷ xs) (y ∷ ys) e =
     let h : n ≡ min (length xs) (length ys) = omega arith in
     ap (λ (l : List Difference). cond (eqb x y) l (difference i x y ∷ l)) (apart-cut (suc i) n xs ys h)
-
-pub cut-alike : (xs ys : List ℕ) {n : ℕ} → n ≡ min (length xs) (length ys) → length (take n xs) ≡ length (take n ys)
-cut-alike xs ys {n} e = omega (arith, length-take n xs, length-take n ys)
 
 pub enters_cut : (list one two a b : List ℕ) {m n : ℕ} {o : EnteredAll} → m ≡ min (length one) (length two) → n ≡ min (length a) (length b)
     → o ≡ entered_of list (differences_from 0 (take m one) (take m two)) (differences_from 0 (take n a) (take n b))

@@ -3,7 +3,7 @@ ghost use Rattle.std.specs.Prelude.{ℕ, map, ◌≡◌, cond, [], ◌∷◌, �
 ghost use Rattle.std.proofs.lemmas.List.Edits.{sets};
 ghost use Rattle.entries.specs.Listed.{differences_from, numbers_of};
 
-// A number of a list: a byte, or a register's value.
+/// A number of a list: a byte, or a register's value.
 pub trait Number: Copy {
     ghost value: { Self → ℕ };
 
@@ -28,6 +28,7 @@ impl Number for usize {
 }
 
 // kept: a function that docs/PROMISES.md names
+/// 0 of two numbers that are equal, 1 of others.
 pub fn differ(one: usize, two: usize) -> usize
     ensures value { result ≡ cond (eqb one two) 0 1 }
     ensures upper_bound { result ≤ 1 }

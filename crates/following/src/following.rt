@@ -10,7 +10,7 @@ use image::door::{count_on, enter, keep, marked};
 use state::reply::number;
 use watch::run::run;
 
-// One access that keeps the flags: the number in the low byte, the byte read in the high one.
+/// One access that keeps the flags: the number in the low byte, the byte read in the high one.
 #[tactic(auto, unfolding(crate::specs::Following::follow_bytes))]
 #[unsafe(no_mangle)]
 pub extern "C" fn t6963c_follow(
@@ -46,7 +46,7 @@ pub extern "C" fn t6963c_follow(
     }
 }
 
-// At most `limit` pairs of a log, refused ones skipped and listed, the flags kept: the number. `counts` becomes place, pairs taken, answers, entries.
+/// At most `limit` pairs of a log, refused ones skipped and listed, the flags kept: the number. `counts` becomes place, pairs taken, answers, entries.
 #[tactic(auto, unfolding(crate::specs::Following::follow_run_bytes))]
 #[unsafe(no_mangle)]
 pub extern "C" fn t6963c_follow_run(
@@ -88,7 +88,7 @@ pub extern "C" fn t6963c_follow_run(
     }
 }
 
-// The flagged rows painted and the flags cleared: the number.
+/// The flagged rows painted and the flags cleared: the number.
 #[tactic(auto, unfolding(crate::specs::Following::refresh_bytes))]
 #[unsafe(no_mangle)]
 pub extern "C" fn t6963c_refresh(

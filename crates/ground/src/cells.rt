@@ -67,7 +67,7 @@ fn pack_row(width: usize, cells: &[u8], out: &mut [u8])
     }
 }
 
-// Cells of 6 or 8 dots, at most 80 of them, into a buffer of just their bytes; else the buffer stays as it was.
+/// Cells of 6 or 8 dots, at most 80 of them, into a buffer of just their bytes; else the buffer stays as it was.
 pub fn pack(width: usize, cells: &[u8], out: &mut [u8])
     ensures { out.new ≡ pack_of width cells.now out.old }
 {

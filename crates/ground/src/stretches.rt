@@ -2,24 +2,24 @@
 ghost use Rattle.std.specs.Prelude.{◌≡◌, length};
 ghost use Rattle.ground.specs.Lists.{build, given_to, read_round, looked_up};
 
-use super::bytes::{lesser, low};
+use super::bytes::low;
 
-// Every byte 0.
+/// Every byte 0.
 pub fn clear(list: &mut [u8])
     ensures { list.new ≡ build (length list.old) (λ j. 0) }
 {
     list.fill(0);
 }
 
-// The front of a list over that of another, as far as both go.
+/// The front of a list over that of another, as far as both go.
 pub fn give(from: &[u8], to: &mut [u8])
     ensures { to.new ≡ given_to from.now to.old }
 {
-    let both = lesser(from.len(), to.len());
+    let both = from.len().min(to.len());
     to[..both].copy_from_slice(&from[..both]);
 }
 
-// The low w bits of a memory's bytes from an address on, round, as many as are asked for; a memory of another length is not read.
+/// The low w bits of a memory's bytes from an address on, round, as many as are asked for; a memory of another length is not read.
 pub fn read_round(width: usize, mem: &[u8], start: u16, out: &mut [u8])
     ensures { out.new ≡ read_round width mem.now start out.old }
 {
@@ -32,7 +32,7 @@ pub fn read_round(width: usize, mem: &[u8], start: u16, out: &mut [u8])
     }
 }
 
-// Codes, each replaced by the low w bits of its row v in a table that has eight rows of each code; another table, or no such row, leaves them.
+/// Codes, each replaced by the low w bits of its row v in a table that has eight rows of each code; another table, or no such row, leaves them.
 pub fn look_up(width: usize, table: &[u8], v: usize, codes: &mut [u8])
     ensures { codes.new ≡ looked_up width table.now v codes.old }
 {

@@ -49,7 +49,10 @@ pub fn enter(panel: Panel, lent: bool, bytes: &[u8]) -> Result<Registers, Refusa
 fn untouched(number: u8) -> bool
     ensures { result ≡ closes number }
 {
-    (number == 1) | (number == 2)
+    matches!(
+        Refusal::try_from(number),
+        Ok(Refusal::Invalid) | Ok(Refusal::WrongLength)
+    )
 }
 
 /// The registers written back over 25 bytes, unless the number says that nothing was touched (1 or 2); a buffer of another length stays.

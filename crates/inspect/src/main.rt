@@ -8,7 +8,7 @@ use inspection::inspect::inspect;
 use inspection::look::Findings;
 use printed::fill::{character_rom, empty_memory, zeroed};
 use printed::input::{byte_in, panel_in, rest_in, start_in};
-use report::{has_argument, put_refusal, read_rom, read_whole, report};
+use report::{finish, has_argument, put_outcome, read_rom, read_whole};
 use state::refusal::Refused;
 use state::registers::Registers;
 use std::io::{Print, Result};
@@ -20,17 +20,12 @@ fn put_named(out: &impl Print, word: &str, named: Option<usize>) -> Result<()> {
     }
 }
 
-// Nothing is named on a refusal.
-fn put_inspected(out: &impl Print, seen: std::result::Result<Findings, Refused>) -> Result<()> {
-    match seen {
-        Ok(named) => {
-            put_refusal(out, 0, 0)?;
-            put_named(out, "unasked", named.unasked)?;
-            put_named(out, "wrong", named.wrong)?;
-            println!(out; "{}", if named.passes() { "passes" } else { "fails" })
-        }
-        Err(refused) => put_refusal(out, refused.refusal.number(), refused.place),
-    }
+// Here and below: where a line can't be written the others are tried all the same.
+fn put_findings(out: &impl Print, found: Findings) -> Result<()> {
+    let unasked = put_named(out, "unasked", found.unasked);
+    let wrong = put_named(out, "wrong", found.wrong);
+    let verdict = println!(out; "{}", if found.passes() { "passes" } else { "fails" });
+    unasked.and(wrong).and(verdict)
 }
 
 // Behind the panel three bytes, low byte first, say how long the log is; the recorded answers are the rest.
@@ -53,15 +48,12 @@ fn inspect_log(rt: HostRuntime) -> Result<u8> {
     let mut input = zeroed::<3145734>();
     let end = read_whole(&mut rt.stdin(), &mut input)?;
     let seen = inspect_input(has_argument(&rt, 2), &rom, &input[..end]);
-    put_inspected(&rt, seen)?;
-    Ok(match seen {
-        Ok(_) => 0,
-        Err(refused) => refused.refusal.number(),
-    })
+    let told = put_outcome(&rt, &seen);
+    // nothing is named on a refusal
+    let named = seen.map_or(Ok(()), |found| put_findings(&rt, found));
+    named.and(told)
 }
 
 fn main(rt: HostRuntime) {
-    if let Ok(number) = inspect_log(rt) {
-        report(number);
-    }
+    finish(inspect_log(rt));
 }

@@ -1,5 +1,6 @@
 -- An inspection pair by pair, and its door.
-use Rattle.std.proofs.Common.{Some, None, Ok, Err}
+use Rattle.std.proofs.Common.{Some, None, Ok, Err, zero, suc, drop, get_or-take, get_or-drop}
+use Rattle.std.specs.Simd.{first_chunks}
 use mathlib.Core.Path.{◌≡◌, refl, ap, sym, subst, ◌∙◌}
 use mathlib.Core.Bool.{true, cond, ◌&&◌}
 use mathlib.Core.List.{List, []}
@@ -127,6 +128,24 @@ module _ {p : Panel} {rom recorded log : List ℕ} {total : ℕ} {s₀ : Standin
                 (ap (watch_by recorded (standing_by r m seen given i).machine (pair_at log i)) (sym (stepped w)));
             fewer = omega (arith, g.fewer);
           })
+
+-- element j of pair i of a log cut into pairs
+in-pair : (k : ℕ) (log : List ℕ) (i j : ℕ) → i < k → j < 2 → get_or (get_or (first_chunks 2 k log) i []) j 0 ≡ get_or log (2 * i + j) 0
+in-pair zero log i j h l = elim h [ ]
+in-pair (suc k) log zero j h l = get_or-take 2 log j 0 l ∙ ap (λ (m : ℕ). get_or log m 0) (omega arith)
+in-pair (suc k) log (suc i) j h l =
+    in-pair k (drop 2 log) i j (omega arith) l ∙ get_or-drop 2 log (2 * i + j) 0 ∙ ap (λ (m : ℕ). get_or log m 0) (omega arith)
+
+-- and pair i
+pub pair-is : (log : List ℕ) (i : ℕ) → i < length log / 2 → {pairs : List (List ℕ)} → pairs ≡ first_chunks 2 (length log / 2) log
+    → record { kind = get_or (get_or pairs i []) 0 0; byte = get_or (get_or pairs i []) 1 0 } ≡ pair_at log i
+pair-is log i h {pairs} e =
+    let kind : get_or (get_or (first_chunks 2 (length log / 2) log) i []) 0 0 ≡ get_or log (2 * i) 0 =
+    in-pair (length log / 2) log i 0 h (omega arith) ∙ ap (λ (m : ℕ). get_or log m 0) (omega arith) in
+    λ t. record {
+      kind = ((λ u. get_or (get_or (e u) i []) 0 0) ∙ kind) t;
+      byte = ((λ u. get_or (get_or (e u) i []) 1 0) ∙ in-pair (length log / 2) log i 1 h (omega arith)) t;
+    }
 
 -- two replies that meet the promise are equal
 pub inspect-settled : {x y : Inspected} {m n : List ℕ} (p : Panel) (r : Registers) (mem rom log recorded : List ℕ)

@@ -27,9 +27,9 @@ fn follow(
 {
     let mut seen = Looked::nothing();
     let mut given: usize = 0;
-    for i in 0..log.len() / 2 {
-        let kind = log[2 * i];
-        let byte = log[2 * i + 1];
+    let (pairs, _) = log.as_chunks::<2>();
+    for (i, pair) in pairs.iter().enumerate() {
+        let [kind, byte] = *pair;
         let auto = registers.bus.auto;
         let own = match step::access(registers, panel, memory, rom, kind, byte) {
             Ok(own) => own,

@@ -1,8 +1,9 @@
 // What is seen of a log, pair by pair.
 ghost use Rattle.std.specs.Prelude.{◌≡◌, true, not, ◌&&◌};
-ghost use Rattle.inspection.specs.Look.{ready_for, needs_asking, first_named, unseen, look_asked, look_answered};
+ghost use Rattle.inspection.specs.Look.{ready_for, needs_asking, unseen, look_asked, look_answered};
 ghost use Rattle.inspection.specs.Named.{named_by, looked, is_nothing};
 
+use codes::pair::Kind;
 use effects::effect::is_read;
 use ground::bytes::bit;
 use state::registers::Auto;
@@ -24,7 +25,7 @@ impl Findings {
     }
 }
 
-// Whether a ready status was read since the last pair that needed one, and what is named so far.
+/// Whether a ready status was read since the last pair that needed one, and what is named so far.
 #[derive(Clone, Copy, Debug, PartialEq, Eq)]
 pub struct Looked {
     pub asked: bool,
@@ -44,17 +45,10 @@ fn is_ready(auto: Auto, answer: u8) -> bool
 fn needs(auto: Auto, kind: u8) -> bool
     ensures { result ≡ needs_asking auto kind }
 {
-    (kind == 0) | (kind == 1) | ((kind == 2) & is_read(auto))
-}
-
-// What was named stays; else the place, if it is to be named.
-fn first(named: Option<usize>, here: bool, place: usize) -> Option<usize>
-    ensures { named_by result ≡ first_named (named_by named) here place }
-{
-    match named {
-        Some(n) => Some(n),
-        None if here => Some(place),
-        None => None,
+    match Kind::try_from(kind) {
+        Ok(Kind::Data) | Ok(Kind::Command) => true,
+        Ok(Kind::Read) => is_read(auto),
+        _ => false,
     }
 }
 
@@ -76,8 +70,9 @@ impl Looked {
         ensures { looked self.new ≡ look_asked auto kind recorded place (looked self.old) }
     {
         let needed = needs(auto, kind);
-        let served = (kind == 3) & is_ready(auto, recorded);
-        self.named.unasked = first(self.named.unasked, needed & !self.asked, place);
+        let served = (kind == Kind::Status as u8) & is_ready(auto, recorded);
+        let unasked = (needed & !self.asked).then_some(place);
+        self.named.unasked = self.named.unasked.or(unasked);
         self.asked = !needed & (self.asked | served);
     }
 
@@ -85,6 +80,7 @@ impl Looked {
     pub(crate) fn compare(&mut self, recorded: u8, own: u8, index: usize)
         ensures { looked self.new ≡ look_answered recorded own index (looked self.old) }
     {
-        self.named.wrong = first(self.named.wrong, recorded != own, index);
+        let wrong = (recorded != own).then_some(index);
+        self.named.wrong = self.named.wrong.or(wrong);
     }
 }

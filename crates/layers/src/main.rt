@@ -9,10 +9,12 @@ use display::seen::row_layers;
 use ground::bytes::bit;
 use ground::cells::pack;
 use output::write_line;
+use printed::dot::dot_mark;
 use printed::fill::{character_rom, empty_memory};
 use printed::input::{byte_in, panel_in, rest_in};
-use report::{has_argument, read_rom, read_whole, report};
+use report::{finish, has_argument, read_rom, read_whole};
 use state::panel::Panel;
+use state::refusal::Refusal;
 use state::registers::{Display, Registers};
 use std::fmt;
 use std::io::Result;
@@ -23,7 +25,7 @@ const WHOLE: usize = 255;
 // The most cells of a row.
 const CELLS: usize = 80;
 
-#[derive(Clone, Copy)]
+#[derive(Clone, Copy, Debug, PartialEq, Eq)]
 enum Layer {
     Text,
     Graphic,
@@ -57,17 +59,13 @@ fn dots_of(cells: usize, width: usize) -> usize
     if width == 6 { 6 * few } else { 8 * few }
 }
 
-fn mark(dot: u8) -> u8 {
-    if dot == 0 { b'.' } else { b'#' }
-}
-
 fn fill_dots(packed: &[u8], line: &mut [u8]) {
     for (x, place) in line.iter_mut().enumerate() {
-        *place = mark(bit(byte_in(packed, x / 8), 7 - x % 8));
+        *place = dot_mark(bit(byte_in(packed, x / 8), 7 - x % 8));
     }
 }
 
-// Cells as a line of dots, the leftmost first.
+// Cells as a line of dots, the leftmost first. Here and below: where something can't be written the rest is tried all the same.
 fn put_cells(rt: HostRuntime, width: usize, cells: &[u8]) -> Result<()> {
     let dots = dots_of(cells.len(), width);
     let bytes = dots.div_ceil(8);
@@ -75,8 +73,7 @@ fn put_cells(rt: HostRuntime, width: usize, cells: &[u8]) -> Result<()> {
     let mut line = [0u8; 8 * CELLS];
     pack(width, cells, &mut packed[..bytes]);
     fill_dots(&packed[..bytes], &mut line[..dots]);
-    rt.write_all(&line[..dots])?;
-    println!(rt; "")
+    rt.write_all(&line[..dots]).and(println!(rt; ""))
 }
 
 impl Picture<'_> {
@@ -115,14 +112,14 @@ impl Picture<'_> {
     // A layer of the cell, or of every row.
     fn put(&self, rt: HostRuntime, layer: Layer, row: usize, column: usize) -> Result<()> {
         if column != WHOLE {
-            print!(rt; "{layer} ")?;
-            return self.put_layer(rt, layer, row, column, 1);
+            let name = print!(rt; "{layer} ");
+            return name.and(self.put_layer(rt, layer, row, column, 1));
         }
-        println!(rt; "{layer}")?;
+        let mut written = println!(rt; "{layer}");
         for row in 0..8 * self.panel.lines.min(32) {
-            self.put_layer(rt, layer, row, 0, self.panel.columns)?;
+            written = written.and(self.put_layer(rt, layer, row, 0, self.panel.columns));
         }
-        Ok(())
+        written
     }
 }
 
@@ -144,9 +141,9 @@ fn show(rt: HostRuntime, rom: &[u8], input: &[u8]) -> Result<u8> {
         log.len() / 2,
         &mut answers,
     );
-    write_line(&rt, ran.taken, ran.answers, ran.number, ran.place)?;
-    if (ran.number == 1) | (ran.number == 8) {
-        return Ok(ran.number);
+    let mut written = write_line(&rt, ran.taken, ran.answers, ran.number, ran.place);
+    if let Ok(Refusal::Invalid | Refusal::OddLength) = Refusal::try_from(ran.number) {
+        return written.and(Ok(ran.number));
     }
     let picture = Picture {
         panel,
@@ -155,12 +152,12 @@ fn show(rt: HostRuntime, rom: &[u8], input: &[u8]) -> Result<u8> {
         rom,
     };
     for layer in [Layer::Text, Layer::Graphic, Layer::Shown] {
-        picture.put(rt, layer, row, column)?;
+        written = written.and(picture.put(rt, layer, row, column));
     }
-    Ok(ran.number)
+    written.and(Ok(ran.number))
 }
 
-// Its own in each program: the room's length and what is shown differ, and a closure would be no plainer.
+// Its own in each program: the room's length and what is shown differ, and no public function has the `requires` that a closure needs.
 // A log run and its layers shown: the run's refusal number.
 fn layers(rt: HostRuntime) -> Result<u8> {
     let mut rom = character_rom();
@@ -171,7 +168,5 @@ fn layers(rt: HostRuntime) -> Result<u8> {
 }
 
 fn main(rt: HostRuntime) {
-    if let Ok(number) = layers(rt) {
-        report(number);
-    }
+    finish(layers(rt));
 }

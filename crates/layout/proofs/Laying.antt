@@ -13,6 +13,9 @@ use Rattle.contents.proofs.Soundness.{Entered, sound-book}
 use Rattle.layout.specs.Laid.{Kept, entry_bytes, head_bytes, entries_laid, bodies_laid, laid_out, bytes_between, screens_of}
 use Rattle.layout.specs.Moved.{moved_all, not_moved, fitted}
 use Rattle.layout.specs.Ready.{BytesPut, sizes_of, entries_for, laid_size, Within, Spanned}
+use Rattle.layout.specs.declared.put.Output.{Output}
+use Rattle.layout.specs.Puts.{Puts, EntriesFit, BodiesFit}
+use Rattle.layout.proofs.Sums.{spanned-wide}
 use Rattle.layout.proofs.Puts.{put_both, head-length, entry_length, between-length}
 
 -- the bytes of entries, and of bodies
@@ -66,20 +69,47 @@ module _ (book : List ℕ) where
         let f = bodies-length bs k in
         laid-length two (screens_of book bs) ∙ (λ i. first_body two (e i) + f i)
 
-    -- head, entries and bodies, one after the other
-    pub laid-put : (two : Bool) {a b c d : List ℕ} {n : ℕ} → n ≡ length bs → BytesPut a 0 (head_bytes two n) b
-        → BytesPut b (entries_at two) (entries_for two bs (first_body two (length bs))) c → BytesPut c (first_body two (length bs)) (bodies_laid (screens_of book bs)) d
-        → BytesPut a 0 (laid_out two (screens_of book bs)) d
-    unfolding laid_out
-    laid-put two {a} {b} {c} {d} q x y z =
-        let ks : List Kept = screens_of book bs in
-        let n = screens-count book bs in
-        let e : entries_for two bs (first_body two (length bs)) ≡ entries_laid two ks (first_body two (length ks)) =
-        entries-as two bs (first_body two (length bs)) k ∙ ap (λ (m : ℕ). entries_laid two ks (first_body two m)) (sym n) in
-        let x' : BytesPut a 0 (head_bytes two (length ks)) b = record { holds = x.holds ∙ ap (λ (m : ℕ). sets a 0 (head_bytes two m)) (q ∙ sym n) } in
-        let y' : BytesPut b (entries_at two) (entries_laid two ks (first_body two (length ks))) c = record { holds = y.holds ∙ ap (sets b (entries_at two)) e } in
-        put_both x' (put_both y' z (ap (λ (m : ℕ). entries_at two + m) (ap (λ (m : ℕ). entry_size two * m) (sym n) ∙ sym (entries-length two ks (first_body two (length ks))))))
-        (sym (head-length two (length ks)) ∙ sym (zero-add (length (head_bytes two (length ks)))))
+    module _ (two : Bool) {a b : Output} {n : ℕ} (q : n ≡ length bs) (x : Puts a (head_bytes two n) b) (z : a.at ≡ 0) (l : laid_size two bs ≤ length a.out.now) where
+      behind : b.at ≡ entries_at two
+      behind = x.ends ∙ (λ i. z i + head-length two n i) ∙ zero-add (entries_at two)
+
+      pub entries-fit : Spanned bs (length book) → laid_size two bs ≤ 32768 → EntriesFit two bs b
+      entries-fit s f =
+          record {
+            within = (spanned-wide s).within;
+            few = s.few;
+            fits = f;
+            lent = omega (arith, behind, l, x.kept, at_least two (length bs));
+          }
+        where
+          at_least : (two : Bool) (n : ℕ) → entries_at two + entry_size two * n ≡ first_body two n
+          at_least true n = refl
+          at_least false n = refl
+
+      module _ {c : Output} (y : Puts b (entries_for two bs (first_body two (length bs))) c) where
+        entries-is : entries_for two bs (first_body two (length bs)) ≡ entries_laid two (screens_of book bs) (first_body two (length (screens_of book bs)))
+        entries-is =
+            entries-as two bs (first_body two (length bs)) k
+            ∙ ap (λ (m : ℕ). entries_laid two (screens_of book bs) (first_body two m)) (sym (screens-count book bs))
+
+        before : c.at ≡ first_body two (length bs)
+        before =
+            y.ends
+            ∙ (λ i. behind i + (ap length entries-is ∙ entries-length two (screens_of book bs) _ ∙ ap (λ (m : ℕ). entry_size two * m) (screens-count book bs)) i)
+
+        pub bodies-fit : BodiesFit bs (length book) c
+        bodies-fit = record { within = k; lent = omega (arith, before, l, x.kept, y.kept) }
+
+        -- head, entries and bodies, one after the other
+        pub laid-put : {d : Output} → Puts c (bodies_laid (screens_of book bs)) d → {after : List ℕ} → after ≡ d.out.now
+            → BytesPut a.out.now 0 (laid_out two (screens_of book bs)) after
+        unfolding laid_out
+        laid-put {d} w {after} e =
+            let g = put_both x (put_both y w) in
+            record {
+              holds = e ∙ g.holds
+                  ∙ (λ i. sets a.out.now (z i) (head_bytes two ((q ∙ sym (screens-count book bs)) i) ++ (entries-is i ++ bodies_laid (screens_of book bs))));
+            }
 
 -- the reply: laid out, or 12
 module _ (laid : List ℕ) {a : List ℕ} {size : ℕ} (e : size ≡ length laid) where

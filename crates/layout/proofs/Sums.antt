@@ -1,19 +1,21 @@
 -- The screens of a book taken one after the other: their bytes added up, their entries and bodies put, their keys compared.
-use mathlib.Core.Path.{◌≡◌, refl, ap, sym, ◌∙◌}
+use mathlib.Core.Path.{◌≡◌, ap, sym, ◌∙◌}
 use mathlib.Core.Bool.{Bool, true, false}
 use mathlib.Core.List.{List, [], ◌∷◌}
 use Prim.Native.Nat.{ℕ, suc, ◌+◌, ◌-◌, ◌*◌, ◌<◌, ◌≤◌}
 use native.Mathlib.Nat.{add_assoc, add-zero}
 use native.Mathlib.Omega.{arith}
 use lib.ListN.{length, get_or, drop, drop_of_length-le}
-use lib.Seq.{sets, drop-cons}
+use lib.Seq.{drop-cons}
 use Rattle.std.proofs.lemmas.List.{length-map}
 use Rattle.contents.specs.declared.spans.Span.{Span}
-use Rattle.contents.specs.Contents.{Body, entries_at, entry_size, first_body}
+use Rattle.contents.specs.Contents.{Body, entry_size, first_body}
 use Rattle.contents.specs.Replies.{body, bodies}
 use Rattle.layout.specs.Laid.{entry_bytes, bodies_laid, bytes_between, screens_of}
-use Rattle.layout.specs.Ready.{BytesPut, sizes_of, entries_for, laid_size, Within, Spanned, Layable}
-use Rattle.layout.proofs.Puts.{Putting, putting-more, putting-ends, entry_length, between-length}
+use Rattle.layout.specs.Ready.{sizes_of, entries_for, laid_size, Within, Spanned}
+use Rattle.layout.specs.declared.put.Output.{Output}
+use Rattle.layout.specs.Puts.{Puts, EntriesFit, BodiesFit}
+use Rattle.layout.proofs.Puts.{Putting, putting, put_on, put-over, entry_length, between-length}
 
 -- the screens from one on: that one, and those behind it; none behind the last
 abbrev pub no_span : Span
@@ -79,83 +81,66 @@ one true at n = omega arith
 one false at n = omega arith
 
 -- the entries put
-pub record EntriesPut (two : Bool) (bs : List Body) (a b : List ℕ) (at start : ℕ) (left : List Body) : Type 0 where
-  pub place : at + entry_size two * length left ≤ length a
+pub record EntriesPut (two : Bool) (bs : List Body) (a b : Output) (start : ℕ) (left : List Body) : Type 0 where
+  pub place : b.at + entry_size two * length left ≤ length b.out.now
   pub within : Within 32768 left
   pub sum : start + sizes_of left ≤ 32768
-  pub putting : Putting a (entries_at two) (entries_for two bs (first_body two (length bs))) b at (entries_for two left start)
+  pub putting : Putting a (entries_for two bs (first_body two (length bs))) b (entries_for two left start)
 
-module _ {two : Bool} {bs : List Body} {a : List ℕ} where
-  pub entries-starts : Layable two bs 32768 (length a) → {at start : ℕ} → at ≡ entries_at two → start ≡ first_body two (length bs) → EntriesPut two bs a a at start bs
-  entries-starts k {at} {start} e f =
+module _ {two : Bool} {bs : List Body} {a : Output} where
+  pub entries-starts : EntriesFit two bs a → {start : ℕ} → start ≡ first_body two (length bs) → EntriesPut two bs a a start bs
+  entries-starts k {start} e =
       record {
-        place = let g : at + entry_size two * length bs ≡ first_body two (length bs) = ap (λ (n : ℕ). n + entry_size two * length bs) e in omega (arith, g, k.lent);
-        within = k.spanned.within;
-        sum = let g : start + sizes_of bs ≡ laid_size two bs = ap (λ (n : ℕ). n + sizes_of bs) f in omega (arith, g, k.fits);
-        putting = record { rest = λ j. sets a (e j) (entries_for two bs (f j)); kept = refl };
+        place = k.lent;
+        within = k.within;
+        sum = let g : start + sizes_of bs ≡ laid_size two bs = ap (λ (n : ℕ). n + sizes_of bs) e in omega (arith, g, k.fits);
+        putting = rw e (putting a (entries_for two bs (first_body two (length bs))));
       }
 
-  module _ {b : List ℕ} {at start : ℕ} where
-    pub entries-room : {c : Body} {left : List Body} → EntriesPut two bs a b at start (c ∷ left)
-        → (c.start ≤ c.end) × ((at + entry_size two ≤ length b) × ((start ≤ 32768) × (start + (c.end - c.start) ≤ 32768)))
+  module _ {b : Output} {start : ℕ} {c : Body} {left : List Body} (p : EntriesPut two bs a b start (c ∷ left)) where
+    pub entries-room : (c.start ≤ c.end) × ((b.at + entry_size two ≤ length b.out.now) × ((start ≤ 32768) × (start + (c.end - c.start) ≤ 32768)))
     unfolding sizes_of
-    entries-room {c} {left} p =
-        let g = one two at (length left) in
-        (p.within.0, (omega (arith, g, p.place, p.putting.kept), (omega (arith, p.sum), omega (arith, p.sum))))
+    entries-room = let g = one two b.at (length left) in (p.within.0, (omega (arith, g, p.place), (omega (arith, p.sum), omega (arith, p.sum))))
 
-    pub entries_next : {c : Body} {left : List Body} → EntriesPut two bs a b at start (c ∷ left) → {d : List ℕ} {step : ℕ}
-        → BytesPut b at (entry_bytes two c.key start (c.end - c.start)) d → step ≡ entry_size two → EntriesPut two bs a d (at + step) (start + (c.end - c.start)) left
+    pub entries_next : {d : Output} → Puts b (entry_bytes two c.key start (c.end - c.start)) d → EntriesPut two bs a d (start + (c.end - c.start)) left
     unfolding sizes_of entries_for
-    entries_next {c} {left} p {d} {step} h e =
+    entries_next {d} h =
         record {
-          place = let g = one two at (length left) in omega (arith, g, p.place, ap (λ (n : ℕ). at + n) e);
+          place = let g = one two b.at (length left) in let e : d.at ≡ b.at + entry_size two = h.ends ∙ ap (λ (n : ℕ). b.at + n) (entry_length two c.key start (c.end - c.start)) in
+              rw e (omega (arith, g, p.place, h.kept));
           within = p.within.1.1;
           sum = omega (arith, p.sum);
-          putting = putting-more h p.putting.rest p.putting.kept (ap (λ (n : ℕ). at + n) (e ∙ sym (entry_length two c.key start (c.end - c.start))));
+          putting = put_on p.putting h;
         }
 
-    pub entries-ends : EntriesPut two bs a b at start [] → BytesPut a (entries_at two) (entries_for two bs (first_body two (length bs))) b
-    unfolding entries_for
-    entries-ends p = putting-ends p.putting
+  pub entries-ends : {b : Output} {start : ℕ} → EntriesPut two bs a b start [] → Puts a (entries_for two bs (first_body two (length bs))) b
+  unfolding entries_for
+  entries-ends p = put-over p.putting
 
 -- the bodies put
-pub record BodiesPut (two : Bool) (bs : List Body) (book a b : List ℕ) (at : ℕ) (left : List Body) : Type 0 where
+pub record BodiesPut (bs : List Body) (book : List ℕ) (a b : Output) (left : List Body) : Type 0 where
   pub within : Within (length book) left
-  pub room : at + sizes_of left ≤ length a
-  pub putting : Putting a (first_body two (length bs)) (bodies_laid (screens_of book bs)) b at (bodies_laid (screens_of book left))
+  pub room : b.at + sizes_of left ≤ length b.out.now
+  pub putting : Putting a (bodies_laid (screens_of book bs)) b (bodies_laid (screens_of book left))
 
-module _ {two : Bool} {bs : List Body} {book a : List ℕ} where
-  pub bodies-starts : Layable two bs (length book) (length a) → {at : ℕ} → at ≡ first_body two (length bs) → BodiesPut two bs book a a at bs
-  bodies-starts k {at} e =
-      record {
-        within = k.spanned.within;
-        room = let g : at + sizes_of bs ≡ laid_size two bs = ap (λ (n : ℕ). n + sizes_of bs) e in omega (arith, g, k.lent);
-        putting = record { rest = λ j. sets a (e j) (bodies_laid (screens_of book bs)); kept = refl };
-      }
+module _ {bs : List Body} {book : List ℕ} {a : Output} where
+  pub bodies-starts : BodiesFit bs (length book) a → BodiesPut bs book a a bs
+  bodies-starts k = record { within = k.within; room = k.lent; putting = putting a (bodies_laid (screens_of book bs)) }
 
-  module _ {b : List ℕ} {at : ℕ} where
-    pub bodies-room : {c : Body} {left : List Body} → BodiesPut two bs book a b at (c ∷ left)
-        → (c.start ≤ c.end) × (c.end ≤ length book) × (at + (c.end - c.start) ≤ length b)
+  module _ {b : Output} {c : Body} {left : List Body} (p : BodiesPut bs book a b (c ∷ left)) where
+    pub bodies-room : (c.start ≤ c.end) × (c.end ≤ length book) × (b.at + (c.end - c.start) ≤ length b.out.now)
     unfolding sizes_of
-    bodies-room p = (p.within.0, p.within.1.0, omega (arith, p.room, p.putting.kept))
+    bodies-room = (p.within.0, p.within.1.0, omega (arith, p.room))
 
-    pub bodies-next : {c : Body} {left : List Body} → BodiesPut two bs book a b at (c ∷ left) → {d : List ℕ} → BytesPut b at (bytes_between book c.start c.end) d
-        → BodiesPut two bs book a d (at + (c.end - c.start)) left
+    pub bodies-next : {d : Output} → Puts b (bytes_between book c.start c.end) d → BodiesPut bs book a d left
     unfolding sizes_of bodies_laid
-    bodies-next {c} {left} p {d} h =
+    bodies-next {d} h =
         record {
           within = p.within.1.1;
-          room = omega (arith, p.room);
-          putting = putting-more h p.putting.rest p.putting.kept (ap (λ (n : ℕ). at + n) (sym (between-length book c.start c.end p.within.0 p.within.1.0)));
+          room = omega (arith, p.room, h.ends, h.kept, between-length book c.start c.end p.within.0 p.within.1.0);
+          putting = put_on p.putting h;
         }
 
-    pub bodies-ends : BodiesPut two bs book a b at [] → BytesPut a (first_body two (length bs)) (bodies_laid (screens_of book bs)) b
-    unfolding bodies_laid
-    bodies-ends p = putting-ends p.putting
-
--- the output has room for the first bytes
-pub head-room : {two : Bool} {bs : List Body} {most : ℕ} (room : ℕ) → Layable two bs most room → (entries_at two ≤ room) × (length bs < 256)
-head-room {two} {bs} room k = (omega (arith, k.lent, at_least two (length bs)), omega (arith, k.spanned.few))
-  where
-    at_least : (two : Bool) (n : ℕ) → entries_at two ≤ first_body two n
-    at_least two n = omega arith
+  pub bodies-ends : {b : Output} → BodiesPut bs book a b [] → Puts a (bodies_laid (screens_of book bs)) b
+  unfolding bodies_laid
+  bodies-ends p = put-over p.putting

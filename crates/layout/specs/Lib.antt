@@ -1,5 +1,6 @@
 pub mod Laid
 pub mod Moved
+pub mod Puts
 pub mod Ready
 pub mod Salvages
 pub mod Saved

@@ -35,12 +35,10 @@ pub(crate) fn fit(two: bool, spans: &[Span], book: &[u8], out: &mut [u8]) -> Res
 fn numbered(spans: &[Span]) -> bool
     ensures { result ≡ numbered_from 0 (bodies spans.now) }
 {
-    for (i, span) in spans.iter().enumerate() {
-        if span.key as usize != i {
-            return false;
-        }
-    }
-    true
+    spans
+        .iter()
+        .enumerate()
+        .all(|(i, span)| span.key as usize == i)
 }
 
 // The most bytes of a book.

@@ -1,52 +1,59 @@
 // Parts of a book put into an output.
-ghost use Rattle.std.specs.Prelude.{◌+◌, ◌-◌, ◌<◌, ◌≤◌, length};
+ghost use Rattle.std.specs.Prelude.{◌+◌, ◌<◌, ◌≤◌, length};
 ghost use Rattle.contents.specs.Contents.{entries_at, entry_size};
-ghost use Rattle.layout.specs.Ready.{BytesPut};
-ghost use Rattle.layout.specs.Laid.{word_bytes, entry_bytes, head_bytes, bytes_between};
+ghost use Rattle.layout.specs.Puts.{Puts};
+ghost use Rattle.layout.specs.Laid.{word_bytes, entry_bytes, head_bytes};
 
-// A place beside the output, here and below: each part begins where the last one ended.
-// 16 bits, low byte first.
-fn put_word(out: &mut [u8], at: usize, value: usize)
-    requires { (at + 2 ≤ length out.old) × (value < 65536) }
-    ensures { BytesPut out.old at (word_bytes value) out.new }
-{
-    let [low, high] = (value as u16).to_le_bytes();
-    out[at] = low;
-    out[at + 1] = high;
+/// A book that is being laid out: what is put next begins at byte `at` of the output.
+#[derive(Drop)]
+pub(crate) struct Output<'a> {
+    pub out: &'a mut [u8],
+    pub at: usize,
 }
 
-// An entry: offset and length, in form two the identity before them.
-pub(crate) fn put_entry(out: &mut [u8], at: usize, two: bool, key: u16, start: usize, size: usize)
-    requires { (at + entry_size two ≤ length out.old) × (start < 65536) × (size < 65536) }
-    ensures { BytesPut out.old at (entry_bytes two key start size) out.new }
-{
-    if two {
-        put_word(out, at, key as usize);
-        put_word(out, at + 2, start);
-        put_word(out, at + 4, size);
-    } else {
-        put_word(out, at, start);
-        put_word(out, at + 2, size);
+impl Output<'_> {
+    // Bytes, behind those before.
+    pub(crate) fn put(&mut self, bytes: &[u8])
+        requires { self.old.at + length bytes.now ≤ length self.old.out.now }
+        ensures { Puts self.old bytes.now self.new }
+    {
+        let end = self.at + bytes.len();
+        self.out[self.at..end].copy_from_slice(bytes);
+        self.at = end;
     }
-}
 
-// n, in form two 0 before it.
-pub(crate) fn put_head(out: &mut [u8], two: bool, n: usize)
-    requires { (entries_at two ≤ length out.old) × (n < 256) }
-    ensures { BytesPut out.old 0 (head_bytes two n) out.new }
-{
-    if two {
-        out[0] = 0;
-        out[1] = n as u8;
-    } else {
-        out[0] = n as u8;
+    // 16 bits, low byte first.
+    fn put_word(&mut self, value: usize)
+        requires { (self.old.at + 2 ≤ length self.old.out.now) × (value < 65536) }
+        ensures { Puts self.old (word_bytes value) self.new }
+    {
+        self.put(&(value as u16).to_le_bytes());
     }
-}
 
-// A body.
-pub(crate) fn put_body(out: &mut [u8], at: usize, book: &[u8], start: usize, end: usize)
-    requires { (start ≤ end) × (end ≤ length book.now) × (at + (end - start) ≤ length out.old) }
-    ensures { BytesPut out.old at (bytes_between book.now start end) out.new }
-{
-    out[at..at + (end - start)].copy_from_slice(&book[start..end]);
+    // An entry: offset and length, in form two the identity before them.
+    pub(crate) fn put_entry(&mut self, two: bool, key: u16, start: usize, size: usize)
+        requires { (self.old.at + entry_size two ≤ length self.old.out.now) × (start < 65536) × (size < 65536) }
+        ensures { Puts self.old (entry_bytes two key start size) self.new }
+    {
+        if two {
+            self.put_word(key as usize);
+            self.put_word(start);
+            self.put_word(size);
+        } else {
+            self.put_word(start);
+            self.put_word(size);
+        }
+    }
+
+    // n, in form two 0 before it.
+    pub(crate) fn put_head(&mut self, two: bool, n: usize)
+        requires { (self.old.at + entries_at two ≤ length self.old.out.now) × (n < 256) }
+        ensures { Puts self.old (head_bytes two n) self.new }
+    {
+        if two {
+            self.put(&[0, n as u8]);
+        } else {
+            self.put(&[n as u8]);
+        }
+    }
 }

@@ -25,17 +25,14 @@ fn read_body(panel: Panel, book: &[u8], start: usize, end: usize) -> Result<bool
 {
     let mut at = start;
     let mut uses = false;
-    // a `loop`: each operation says where the next begins, and no index counts them
-    loop {
-        match read(panel, book, at, end) {
-            Ok(Some(standing)) => {
-                uses = uses | is_and(standing.placed);
-                at = standing.next;
-            }
-            Ok(None) => return Ok(uses),
-            Err(refusal) => return Err(Refused { refusal, place: at }),
-        }
+    while let Some(standing) = read(panel, book, at, end).map_err(|refusal| Refused {
+        refusal,
+        place: at,
+    })? {
+        uses = uses | is_and(standing.placed);
+        at = standing.next;
     }
+    Ok(uses)
 }
 
 // A faulty operation anywhere counts before AND, of which the first screen counts.

@@ -28,16 +28,10 @@ fn good_end(panel: Panel, book: &[u8], start: usize, end: usize) -> usize
     ensures { result ≡ good_until (end - start) panel book.now start end }
 {
     let mut at = start;
-    // a `loop`: each operation says where the next begins, and no index counts them
-    loop {
-        match read(panel, book, at, end) {
-            Ok(Some(standing)) => {
-                at = standing.next;
-            }
-            Ok(None) => return at,
-            Err(_) => return at,
-        }
+    while let Ok(Some(standing)) = read(panel, book, at, end) {
+        at = standing.next;
     }
+    at
 }
 
 fn cut(panel: Panel, book: &[u8], spans: &[Span]) -> Torn
@@ -46,11 +40,7 @@ fn cut(panel: Panel, book: &[u8], spans: &[Span]) -> Torn
     ensures kept { kept result.screens ≡ sets (zeros 64) 0 (kept_bytes panel book.now (bodies spans.now)) }
     ensures dropped { dropped result.screens ≡ sets (zeros 64) 0 (dropped_bytes panel book.now (bodies spans.now)) }
 {
-    let mut cut = [Span {
-        key: 0,
-        start: 0,
-        end: 0,
-    }; 64];
+    let mut cut = [Span::NONE; 64];
     let mut screens = [Saved {
         kept: 0,
         dropped: 0,

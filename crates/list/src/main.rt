@@ -5,11 +5,12 @@
 use naming::pair::Words;
 use printed::fill::empty_memory;
 use printed::input::panel_in;
-use report::{has_argument, read_whole, report};
+use report::{finish, has_argument, read_whole};
 use single::step::access;
 use state::panel::Panel;
 use state::refusal::Refusal;
 use state::registers::Registers;
+use state::reply::number;
 use std::io::{Cursor, Error, ErrorKind, Read, Result, Write};
 
 // The bytes of a part of the log, 1,024 pairs, and the parts that are read at most: 2^43 bytes.
@@ -17,84 +18,81 @@ const PART: usize = 2048;
 
 const PARTS: u64 = 4294967296;
 
-// The number of a refusal, 0 where there is none.
-fn number_of(refusal: Option<Refusal>) -> u8 {
-    refusal.map_or(0, |refusal| refusal.number())
+// What became of the log so far: its first refusal, where there was one.
+type Outcome = std::result::Result<(), Refusal>;
+
+// What the log runs on.
+#[derive(Drop)]
+struct Machine<'a> {
+    panel: Panel,
+    registers: Registers,
+    memory: &'a mut [u8],
+    rom: &'a [u8],
 }
 
-// The lines of some pairs, the first at the place `from`, and the first refusal; a refused pair changes nothing, and the next is taken all
-// the same.
-fn list_pairs(
-    panel: Panel,
-    registers: &mut Registers,
-    memory: &mut [u8],
-    rom: &[u8],
-    part: &[u8],
-    from: usize,
-    out: &mut Cursor<&mut [u8]>,
-) -> Result<Option<Refusal>> {
-    let mut first = None;
-    for (i, pair) in part.chunks_exact(2).enumerate() {
-        let kind = pair[0];
-        let byte = pair[1];
-        let access = access(registers, panel, memory, rom, kind, byte);
-        let words = Words {
-            kind,
-            byte,
-            registers: *registers,
-            access,
-        };
-        let place = from.wrapping_add(i);
-        let number = number_of(access.err());
-        writeln!(out, "{place} {kind} {byte:02X} {number} {words}")?;
-        first = first.or(access.err());
-    }
-    Ok(first)
-}
-
-// A part of the log listed: its lines have less than 128 characters each, so that they have room.
-fn list_part(
-    rt: HostRuntime,
-    panel: Panel,
-    registers: &mut Registers,
-    memory: &mut [u8],
-    rom: &[u8],
-    part: &[u8],
-    from: usize,
-) -> Result<Option<Refusal>> {
-    let mut room = [0u8; 131072];
-    let mut out = Cursor::new(&mut room[..]);
-    let first = list_pairs(panel, registers, memory, rom, part, from, &mut out);
-    let end = (out.position() as usize).min(131072);
-    Print::write_all(&rt, &room[..end])?;
-    first
-}
-
-// Part after part, from reset; the last one is shorter than the others. The refusal of the whole log: 8 where its length is odd, else the
-// first refused pair's.
-fn list_all(
-    rt: HostRuntime,
-    panel: Panel,
-    memory: &mut [u8],
-    rom: &[u8],
-) -> Result<Option<Refusal>> {
-    let mut registers = Registers::reset();
-    let mut first = None;
-    let mut from: usize = 0;
-    for _ in 0..PARTS {
-        let mut part = [0u8; PART];
-        let count = read_whole(&mut rt.stdin(), &mut part)?;
-        let refusal = list_part(rt, panel, &mut registers, memory, rom, &part[..count], from)?;
-        first = first.or(refusal);
-        if count % 2 == 1 {
-            return Ok(Some(Refusal::OddLength));
+impl Machine<'_> {
+    // The lines of some pairs, the first at the place `from`; a refused pair changes nothing, and the next is taken all the same.
+    fn list_pairs(
+        &mut self,
+        part: &[u8],
+        from: usize,
+        out: &mut Cursor<&mut [u8]>,
+    ) -> Result<Outcome> {
+        let mut first = Ok(());
+        for (i, pair) in part.chunks_exact(2).enumerate() {
+            let kind = pair[0];
+            let byte = pair[1];
+            let access = access(
+                &mut self.registers,
+                self.panel,
+                self.memory,
+                self.rom,
+                kind,
+                byte,
+            );
+            let words = Words {
+                kind,
+                byte,
+                registers: self.registers,
+                access,
+            };
+            let place = from.wrapping_add(i);
+            let outcome = access.map(|_| ());
+            writeln!(out, "{place} {kind} {byte:02X} {} {words}", number(outcome))?;
+            first = first.and(outcome);
         }
-        if count < PART {
-            return Ok(first);
-        }
-        from = from.wrapping_add(PART / 2);
+        Ok(first)
     }
-    Err(Error::from(ErrorKind::FileTooLarge))
+
+    // A part of the log listed: its lines have less than 128 characters each, so that they have room.
+    fn list_part(&mut self, rt: HostRuntime, part: &[u8], from: usize) -> Result<Outcome> {
+        let mut room = [0u8; 131072];
+        let mut out = Cursor::new(&mut room[..]);
+        let first = self.list_pairs(part, from, &mut out);
+        let end = (out.position() as usize).min(131072);
+        Print::write_all(&rt, &room[..end])?;
+        first
+    }
+
+    // Part after part; the last one is shorter than the others. The refusal of the whole log: 8 where its length is odd, else the first
+    // refused pair's.
+    fn list_all(&mut self, rt: HostRuntime) -> Result<Outcome> {
+        let mut first = Ok(());
+        let mut from: usize = 0;
+        for _ in 0..PARTS {
+            let mut part = [0u8; PART];
+            let count = read_whole(&mut rt.stdin(), &mut part)?;
+            first = first.and(self.list_part(rt, &part[..count], from)?);
+            if count % 2 == 1 {
+                return Ok(Err(Refusal::OddLength));
+            }
+            if count < PART {
+                return Ok(first);
+            }
+            from = from.wrapping_add(PART / 2);
+        }
+        Err(Error::from(ErrorKind::FileTooLarge))
+    }
 }
 
 // The log listed, and its refusal number; 1 where the panel is not valid.
@@ -108,12 +106,16 @@ fn list(rt: HostRuntime) -> Result<u8> {
     if !panel.valid() {
         return Ok(Refusal::Invalid.number());
     }
-    let mut memory = empty_memory();
-    Ok(number_of(list_all(rt, panel, &mut memory, &rom)?))
+    let mut machine = Machine {
+        panel,
+        registers: Registers::reset(),
+        memory: &mut empty_memory(),
+        rom: &rom,
+    };
+    let outcome = machine.list_all(rt)?;
+    Ok(number(outcome))
 }
 
 fn main(rt: HostRuntime) {
-    if let Ok(number) = list(rt) {
-        report(number);
-    }
+    finish(list(rt));
 }

@@ -5,7 +5,7 @@
 use ground::bytes::word;
 use printed::fill::empty_memory;
 use printed::input::panel_in;
-use report::{has_argument, put_refusal, read_whole, report};
+use report::{finish, has_argument, put_outcome, read_whole};
 use state::panel::Panel;
 use state::refusal::{Refusal, Refused};
 use state::registers::Registers;
@@ -21,7 +21,7 @@ const PARTS: u64 = 4294967296;
 const ENTRY: usize = 4;
 
 // The stores listed, and the refusal at which the list ends.
-#[derive(Clone, Copy)]
+#[derive(Clone, Copy, Debug, PartialEq, Eq)]
 struct Told {
     stores: usize,
     end: std::result::Result<(), Refused>,
@@ -52,17 +52,11 @@ fn put_entries(rt: HostRuntime, entries: &[usize], past: usize) -> Result<()> {
     Ok(())
 }
 
-// The log listed part after part, from reset, each into the room, which holds 80 stores for each of its pairs; the last part is shorter than
-// the others. Where the whole log's length is odd its whole pairs are the place.
-fn list_all(
-    rt: HostRuntime,
-    panel: Panel,
-    memory: &mut [u8],
-    rom: &[u8],
-    first: u16,
-    last: u16,
-    room: &mut [usize],
-) -> Result<Told> {
+// The log listed part after part, from reset, each into a room that holds 80 stores for each of its pairs; the last part is shorter than the
+// others. Where the whole log's length is odd its whole pairs are the place.
+fn list_all(rt: HostRuntime, panel: Panel, rom: &[u8], first: u16, last: u16) -> Result<Told> {
+    let mut memory = empty_memory();
+    let mut room = [0usize; 163840];
     let mut registers = Registers::reset();
     let mut stores: usize = 0;
     let mut past: usize = 0;
@@ -73,12 +67,12 @@ fn list_all(
         let listed = list(
             panel,
             registers,
-            memory,
+            &mut memory,
             rom,
             &part[..2 * pairs],
             first,
             last,
-            room,
+            &mut room,
         );
         let end = room.len().min(listed.count.saturating_mul(ENTRY));
         put_entries(rt, &room[..end], past)?;
@@ -116,20 +110,12 @@ fn list_log(rt: HostRuntime) -> Result<u8> {
     let panel = panel_in(&head, has_argument(&rt, 1));
     let first = word(head[3], head[4]);
     let last = word(head[5], head[6]);
-    let mut memory = empty_memory();
-    let mut room = [0usize; 163840];
-    let told = list_all(rt, panel, &mut memory, &rom, first, last, &mut room)?;
-    println!(rt; "stores {}", told.stores)?;
-    let (number, place) = match told.end {
-        Ok(()) => (0, 0),
-        Err(refused) => (refused.refusal.number(), refused.place),
-    };
-    put_refusal(&rt, number, place)?;
-    Ok(number)
+    let told = list_all(rt, panel, &rom, first, last)?;
+    // where a line can't be written the other is tried all the same
+    let stores = println!(rt; "stores {}", told.stores);
+    stores.and(put_outcome(&rt, &told.end))
 }
 
 fn main(rt: HostRuntime) {
-    if let Ok(number) = list_log(rt) {
-        report(number);
-    }
+    finish(list_log(rt));
 }

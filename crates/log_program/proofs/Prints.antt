@@ -1,13 +1,12 @@
 -- What the input gives, what a run's text rests on, and the whole text.
 use mathlib.Core.Path.{◌≡◌, refl, ap, sym, subst, ◌∙◌}
 use mathlib.Core.Bool.{Bool, true, false, cond, ◌&&◌, ◌||◌}
-use mathlib.Core.List.{List, [], ◌++◌, append-nil}
-use Prim.Native.Nat.{ℕ, ◌+◌, ◌-◌, ◌*◌, ◌/◌, ◌%◌, ◌≤◌, ◌<◌, min}
-use native.Mathlib.Decide.{dec_lt}
+use mathlib.Core.List.{List, ◌++◌, append-nil}
+use Prim.Native.Nat.{ℕ, ◌+◌, ◌-◌, ◌*◌, ◌/◌, ◌%◌, ◌≤◌}
 use native.Mathlib.Omega.{arith}
 use lib.Dec.{leb, eqb}
 use lib.ListN.{length, take, drop, length-drop, drop_of_length-le}
-use lib.Seq.{take_all, take-nil, length-take-le}
+use lib.Seq.{take_all, length-take-le}
 use borrow.Author.Tests.{le-leb, eq-eqb, ne_eqb, eqb-false}
 use Rattle.ground.specs.Lists.{zeros}
 use Rattle.ground.specs.Packing.{row_bytes}
@@ -15,6 +14,8 @@ use Rattle.ground.proofs.Tests.{both, both_left}
 use Rattle.state.specs.State.{valid_panel, valid_registers, reset_registers}
 use Rattle.display.specs.Frame.{frame_of, lent_lengths, frame_fits, painted, Painted, paint_of, reply_of}
 use Rattle.display.proofs.Painted.{paint-length}
+use Rattle.state.specs.Sizes.{frame_size, valid_size}
+use Rattle.state.proofs.Sizes.{is-size}
 use Rattle.state.proofs.Valid.{Panelled, panelled}
 use Rattle.controller.specs.Types.{Panel, Registers}
 use Rattle.state.specs.Replies.{Reply}
@@ -32,7 +33,7 @@ use Rattle.printed.specs.Parts.{print_line_of, print_answers_of, print_rows_of}
 use Rattle.log_program.specs.Printing.{log_in, ran_in, text_of, log_text, ran_line, print_of}
 use Rattle.printed.specs.Text.{hex_lines}
 use Rattle.log_program.specs.Ready.{FrameReady, TextReady}
-use Rattle.printed.proofs.Puts.{put_same, put_both, put-behind, put-before}
+use Rattle.printed.proofs.Puts.{put_same, put_both, put-length, put-behind, put-before}
 use Rattle.printed.proofs.Prints.{zeros-length, lines-few, hex-lines-length, frame-lines-length}
 use Rattle.printed.proofs.Texts.{printed-none, printed-all, printed-put, printed-few, printed-within, reported-settled}
 
@@ -198,6 +199,40 @@ module _ (p : Panel) (a : Ran) {mem rom answers frame out : List ℕ} (k : TextR
 
   pub ready-panel : Panelled p
   ready-panel = panelled p (both_left (valid_panel p) (valid_registers a.registers) ready-valid)
+
+-- the parts behind a run's line, in a room that has held it
+module _ (p : Panel) (a : Ran) {mem rom answers frame out : List ℕ} (k : TextReady p a mem rom answers frame out)
+    {b : List ℕ} {w : ℕ} (x : TextPut out 0 (ran_line a) b w) (h : w ≤ 112) {n : ℕ} {c : List ℕ} (e : printed n c ≡ print_answers_of a.answers answers (take (length b - w) (drop w b))) where
+  long : length b ≡ 196608
+  long = put-length x ∙ k.roomy
+
+  abbrev next : List ℕ
+  next = take w b ++ (c ++ drop (length b - w) (drop w b))
+
+  pub answers-behind : TextPut b w (hex_lines a.answers answers) next (w + n)
+  answers-behind = answers-put a.answers w answers (omega (arith, h, k.given, k.answered, long)) k.given e
+
+  pub next-few : w + n ≤ 24688
+  next-few = omega (arith, answers-behind.ends, hex-lines-length a.answers answers, h, k.given, k.answered)
+
+  pub next-inside : w + n ≤ length next
+  next-inside = omega (arith, next-few, put-length answers-behind, long)
+
+  module _ (g : (eqb a.number 1 || eqb a.number 8) ≡ false) {size : ℕ} (s : size ≡ valid_size p (frame_size p)) (f : List ℕ) (i : length f ≡ size) {r : Reply} {after : List ℕ}
+      (j : painted r after ≡ paint_of p a.registers mem rom f) {m : ℕ} {d : List ℕ} (l : printed m d ≡ print_rows_of p after (take (length next - (w + n)) (drop (w + n) next))) where
+    pub frame-behind : TextPut next (w + n) (frame_lines p (frame_of p a.registers.display mem rom)) (take (w + n) next ++ (d ++ drop (length next - (w + n)) (drop (w + n) next))) (w + n + m)
+    frame-behind =
+        let v = ready-valid p a k g in
+        frame-put {a = next} {at = w + n} (record {
+          valid = v;
+          lent = k.lent;
+          sized = i ∙ is-size p (both_left (valid_panel p) (valid_registers a.registers) v) s;
+          room = omega (arith, next-few, put-length answers-behind, long);
+        }) j l
+
+    pub text-few : w + n + m ≤ 196608
+    text-few =
+        omega (arith, frame-behind.ends, frame-lines-length p (frame_of p a.registers.display mem rom), lines-few p (ready-panel p a k g), next-few)
 
 -- two replies that meet the promise are equal
 pub print-settled : {n k : Told} {b c : List ℕ} (input out : List ℕ) → reported n b ≡ print_of input out → reported k c ≡ print_of input out → (n ≡ k) × (b ≡ c)

@@ -4,7 +4,7 @@
 mod print;
 
 use crate::print::print;
-use report::{read_whole, report};
+use report::{finish, read_whole};
 use std::io::Result;
 
 // The log's text written, and its refusal number.
@@ -19,7 +19,5 @@ fn print_log(rt: HostRuntime) -> Result<u8> {
 }
 
 fn main(rt: HostRuntime) {
-    if let Ok(number) = print_log(rt) {
-        report(number);
-    }
+    finish(print_log(rt));
 }

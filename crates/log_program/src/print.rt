@@ -1,13 +1,11 @@
 // What the log program prints, as bytes in a lent room.
 ghost use Rattle.std.specs.Prelude.{◌≡◌, ◌+◌, ◌*◌, ◌≤◌, length};
 ghost use Rattle.ground.specs.Lists.{zeros};
-ghost use Rattle.display.specs.Frame.{frame_of};
 ghost use Rattle.controller.specs.Run.{ran_all};
 ghost use Rattle.printed.specs.Put.{TextPut};
-ghost use Rattle.printed.specs.Text.{hex_lines};
-ghost use Rattle.printed.specs.Printed.{characters, frame_lines, reported};
+ghost use Rattle.printed.specs.Printed.{characters, reported};
 ghost use Rattle.log_program.specs.Printing.{log_in, ran_in, ran_line, text_of, print_of};
-ghost use Rattle.log_program.specs.Ready.{FrameReady, TextReady};
+ghost use Rattle.log_program.specs.Ready.{TextReady};
 
 use controller::run::{Ran, run_stopping};
 use display::frame::paint;
@@ -40,55 +38,29 @@ fn put_line(ran: Ran, out: &mut [u8]) -> usize
     )
 }
 
-// The answers, one to a line, from a place on: the place behind them.
-fn put_answers(given: usize, answers: &[u8], out: &mut [u8], at: usize) -> usize
-    requires { (at + 3 * given ≤ length out.old) × (given ≤ length answers.now) }
-    ensures { TextPut out.old at (hex_lines given answers.now) out.new result }
-{
-    let lines = print_answers(given, answers, &mut out[at..]);
-    at + lines
-}
-
-// The frame, painted and then as text, likewise.
-fn put_frame(
-    panel: Panel,
-    registers: Registers,
-    memory: &[u8],
-    rom: &[u8],
-    frame: &mut [u8],
-    out: &mut [u8],
-    at: usize,
-) -> usize
-    requires { FrameReady panel registers memory.now rom.now frame.old out.old at }
-    ensures { TextPut out.old at (frame_lines panel (frame_of panel registers.display memory.now rom.now)) out.new result }
-{
-    let _ = paint(panel, registers, memory, rom, frame);
-    let lines = print_rows(panel, frame, &mut out[at..]);
-    at + lines
-}
-
-// What a run came to; on refusals 1 and 8 the first line only.
+// What a run came to; on refusals 1 and 8, which `text_of` has by these numbers, the first line only.
 fn put_ran(
     panel: Panel,
     ran: Ran,
     memory: &[u8],
     rom: &[u8],
     answers: &[u8],
-    frame: &mut [u8],
     out: &mut [u8],
 ) -> usize
-    requires { TextReady panel ran memory.now rom.now answers.now frame.old out.old }
+    requires { TextReady panel ran memory.now rom.now answers.now (zeros 20480) out.old }
     ensures text_put { TextPut out.old 0 (text_of panel rom.now (ran_all ran memory.now answers.now)) out.new result }
     ensures upper_bound { result ≤ 196608 }
 {
-    let at = put_line(ran, out);
+    let line = put_line(ran, out);
     if (ran.number == 1) | (ran.number == 8) {
-        return at;
+        return line;
     }
-    let next = put_answers(ran.answers, answers, out, at);
-    let registers = ran.registers;
+    let next = line + print_answers(ran.answers, answers, &mut out[line..]);
     let size = panel.frame_size();
-    put_frame(panel, registers, memory, rom, &mut frame[..size], out, next)
+    let mut room = [0u8; 20480];
+    let frame = &mut room[..size];
+    let _ = paint(panel, ran.registers, memory, rom, frame);
+    next + print_rows(panel, frame, &mut out[next..])
 }
 
 // The run of the input's log, from reset on fresh rooms.
@@ -110,10 +82,9 @@ pub fn print(input: &[u8], out: &mut [u8]) -> Told
         let mut memory = empty_memory();
         let rom = character_rom();
         let mut answers = zeroed::<8192>();
-        let mut frame = [0u8; 20480];
         let ran = run_log(input, &mut memory, &rom, &mut answers);
         let panel = panel_in(input, false);
-        let count = put_ran(panel, ran, &memory, &rom, &answers, &mut frame, out);
+        let count = put_ran(panel, ran, &memory, &rom, &answers, out);
         Told {
             count,
             number: ran.number,

@@ -4,8 +4,9 @@
 
 use layout::moves::{move_down, move_up};
 use printed::input::{byte_in, panel_in, rest_in};
-use report::{STDOUT_FILENO, has_argument, put_refusal, read_whole, report};
+use report::{finish, has_argument, put_refused, read_whole};
 use state::refusal::Refused;
+use std::io::Print;
 
 // Direction 0 is down, any other byte up, which asks for the panel.
 fn moved(dual: bool, input: &[u8], out: &mut [u8]) -> Result<usize, Refused> {
@@ -16,25 +17,22 @@ fn moved(dual: bool, input: &[u8], out: &mut [u8]) -> Result<usize, Refused> {
     move_up(panel_in(rest_in(input, 1), dual), book, out)
 }
 
-// One byte past the limit shows that a book is too long; no moved book is longer than the output.
-fn main(rt: HostRuntime) {
+// The moved book written, or the refusal's line: the refusal number. One byte past the limit shows that a book is too long; no moved book
+// is longer than the output.
+fn move_book(rt: HostRuntime) -> std::io::Result<u8> {
     let mut input = [0u8; 32773];
-    let Ok(end) = read_whole(&mut rt.stdin(), &mut input) else {
-        return;
-    };
+    let end = read_whole(&mut rt.stdin(), &mut input)?;
     let mut out = [0u8; 32768];
     let dual = has_argument(&rt, 1);
     match moved(dual, &input[..end], &mut out) {
         Ok(size) => {
-            if io::write_all(STDOUT_FILENO, &out[..size.min(32768)]) {
-                report(0);
-            }
+            rt.write_all(&out[..size.min(32768)])?;
+            Ok(0)
         }
-        Err(refused) => {
-            let number = refused.refusal.number();
-            if put_refusal(&rt.stderr(), number, refused.place).is_ok() {
-                report(number);
-            }
-        }
+        Err(refused) => put_refused(&rt.stderr(), refused),
     }
+}
+
+fn main(rt: HostRuntime) {
+    finish(move_book(rt));
 }

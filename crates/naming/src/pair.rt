@@ -22,12 +22,11 @@ pub struct Words {
 #[derive(Clone, Copy, Debug, PartialEq, Eq)]
 struct Answered(Result<Option<u8>, Refusal>);
 
-// A command; where its access was taken, what its data set too.
+// A command; where its access was taken the registers behind it, which say what its data set.
 #[derive(Clone, Copy, Debug, PartialEq, Eq)]
 struct Called {
     command: Command,
-    registers: Registers,
-    taken: bool,
+    taken: Option<Registers>,
 }
 
 impl fmt::Display for Answered {
@@ -42,14 +41,10 @@ impl fmt::Display for Answered {
 impl Called {
     fn set<W: fmt::Write>(&self, f: &mut fmt::Formatter<W>, target: Target) -> fmt::Result {
         let name = target_name(target);
-        if !self.taken {
-            return f.write_str(name);
+        match self.taken {
+            Some(registers) => write!(f, "{name} = {}", Held { target, registers }),
+            None => f.write_str(name),
         }
-        let held = Held {
-            target,
-            registers: self.registers,
-        };
-        write!(f, "{name} = {held}")
     }
 }
 
@@ -87,8 +82,7 @@ impl Words {
         };
         let called = Called {
             command,
-            registers: self.registers,
-            taken: self.access.is_ok(),
+            taken: self.access.is_ok().then_some(self.registers),
         };
         write!(f, "{called}")
     }

@@ -1,113 +1,17 @@
 -- Data in auto write, as they follow one another: stored one after the other, and noted where they are in the stretch.
-use Rattle.std.proofs.Common.{subst, ◌≡◌, ℕ, zero, suc, ◌+◌, ◌-◌, ◌*◌, ◌%◌, ◌^◌, ◌<◌, ◌≤◌, min, Bool, true, false, cond, ◌&&◌, ◌||◌, ltb, leb, List, [], ◌∷◌, ◌++◌, length, get_or, set, sym, refl, ap, ◌∙◌, true≢false, append-nil, add-one, arith, length-append, length-set, ltb-false, ltb-true, le-ltb, le-leb, leb-false, leb-true}
+use Rattle.std.proofs.Common.{◌≡◌, ℕ, zero, suc, ◌+◌, ◌-◌, ◌*◌, ◌^◌, ◌<◌, ◌≤◌, min, Bool, true, false, cond, ◌&&◌, ltb, List, [], ◌∷◌, ◌++◌, length, get_or, set, sym, refl, ap, ◌∙◌, append-nil, add-one, arith, length-append, ltb-false, le-ltb}
 use native.Mathlib.Decide.{dec_lt}
 use lib.Seq.{sets, length-sets}
-use borrow.Author.Tests.{lt-leb}
 use Rattle.ground.specs.Lists.{build, stored}
-use Rattle.ground.proofs.Conjuncts.{neither}
-use Rattle.ground.proofs.Tests.{both, both_left, both_right}
 use Rattle.turns.specs.Blocked.{pairs_from, data_of, bytes_from, AllData, Blocked}
 use Rattle.turns.proofs.Blocks.{pair_at, pairs-here, data-first, data-none, none_left, data-front, bytes-length, stored-join, block-moves}
 use Rattle.stores.specs.Stores.{from_address}
-use Rattle.noting.specs.Stretch.{Store, in_stretch}
+use Rattle.noting.specs.Stretch.{Store, store, in_stretch}
 use Rattle.noting.specs.Noted.{room_of, capped, Noting, noting, entry_of, entered, noted_by, noted_each}
-use Rattle.noting.specs.Laid.{Spans, laid, datum_at, Puts, Fills, Lays}
+use Rattle.noting.specs.Types.{Notes}
+use Rattle.noting.specs.Notes.{noting_of, Stays, Put}
+use Rattle.noting.specs.Laid.{Spans, laid, datum_at, Puts, Lays}
 use Rattle.noting.proofs.Notes.{plus-counts, note-room, notes-more, capped-more}
-
--- which addresses lie alike
-module _ (first last at : ℕ) (f : first < 65536) (l : last < 65536) (a : at < 65536) where
-  either : (t : Bool) → (t || true) ≡ true
-  either true = refl
-  either false = refl
-
-  -- the stretch with its order known
-  abbrev lies : Bool → ℕ → Bool
-  lies t x = cond t (leb first x && leb x last) (leb first x || leb x last)
-
-  up-to-last : (t : Bool) → leb first last ≡ t → lies t at ≡ true → (x : ℕ) → at ≤ x → x ≤ last → lies t x ≡ true
-  up-to-last true o i x h k =
-      let b : first ≤ at = leb-true first at (both_left (leb first at) (leb at last) i) in
-      both (le-leb first x (omega arith)) (le-leb x last k)
-  up-to-last false o i x h k = ap (λ (u : Bool). leb first x || u) (le-leb x last k) ∙ either (leb first x)
-
-  past-last : (t : Bool) → leb first last ≡ t → lies t at ≡ true → last < at → (x : ℕ) → at ≤ x → lies t x ≡ true
-  past-last true o i m x h = absurd (let b : at ≤ last = leb-true at last (both_right (leb first at) (leb at last) i) in omega arith)
-  past-last false o i m x h = go (leb first at) refl i
-    where
-      go : (u : Bool) → leb first at ≡ u → (u || leb at last) ≡ true → lies false x ≡ true
-      go true e k = let b : first ≤ at = leb-true first at e in ap (λ (v : Bool). v || leb x last) (le-leb first x (omega arith))
-      go false e k = absurd (let b : at ≤ last = leb-true at last k in omega arith)
-
-  pub span-low : in_stretch first last at ≡ true → at ≤ last → Spans first last at (last - at + 1)
-  span-low i h =
-      record {
-        some = omega arith;
-        few = omega arith;
-        alike = λ j k. up-to-last (leb first last) refl i (from_address at j) (omega arith) (omega arith) ∙ sym i;
-        below = λ e. omega arith;
-      }
-
-  pub span-high : in_stretch first last at ≡ true → last < at → Spans first last at (65536 - at)
-  span-high i h =
-      record {
-        some = omega arith;
-        few = omega arith;
-        alike = λ j k. past-last (leb first last) refl i h (from_address at j) (omega arith) ∙ sym i;
-        below = λ e. omega arith;
-      }
-
-  -- from outside up to the first address
-  first-lies : (t : Bool) → leb first last ≡ t → lies t first ≡ true
-  first-lies true o = both (le-leb first first (omega arith)) o
-  first-lies false o = ap (λ (u : Bool). u || leb first last) (le-leb first first (omega arith))
-
-  apart : (x : ℕ) → (first ≤ x → x ≤ last → ⊥) → (leb first x && leb x last) ≡ false
-  apart x h = go (leb first x) (leb x last) refl refl
-    where
-      go : (t u : Bool) → leb first x ≡ t → leb x last ≡ u → (t && u) ≡ false
-      go true true y z = absurd (h (leb-true first x y) (leb-true x last z))
-      go true false y z = refl
-      go false u y z = refl
-
-  module _ {n : ℕ} (few : n < 65536) (e : (n + at) % 65536 ≡ first) where
-    outer : (t : Bool) → leb first last ≡ t → lies t at ≡ false → (j : ℕ) → j < n → lies t (from_address at j) ≡ false
-    outer true y z j h = apart (from_address at j) (λ b c. inside (dec_lt at first) (dec_lt last at) b c)
-      where
-        order : first ≤ last
-        order = leb-true first last y
-
-        inside : Dec (at < first) → Dec (last < at) → first ≤ from_address at j → from_address at j ≤ last → ⊥
-        inside (yes b) d p q = omega arith
-        inside (no b) (yes d) p q = let o = order in omega arith
-        inside (no b) (no d) p q = true≢false (sym (both (le-leb first at (omega arith)) (le-leb at last (omega arith))) ∙ z)
-    outer false y z j h =
-        let order : last < first = leb-false first last y in
-        let both_out = neither (leb first at) (leb at last) z in
-        let low : at < first = leb-false first at both_out.0 in
-        let high : last < at = leb-false at last both_out.1 in
-        let x : first < 65536 = f in
-        (λ t. lt-leb first (from_address at j) (omega arith) t || lt-leb (from_address at j) last (omega arith) t)
-
-    pub span-out : in_stretch first last at ≡ false → Spans first last at n
-    span-out o =
-        record {
-          some = go (dec_lt 0 n);
-          few = omega arith;
-          alike = λ j h. outer (leb first last) refl o j h ∙ sym o;
-          below = λ i. absurd (true≢false (sym i ∙ o));
-        }
-      where
-        go : Dec (0 < n) → 0 < n
-        go (yes h) = h
-        go (no h) =
-            let same : at ≡ first = omega arith in
-            absurd (true≢false (sym (first-lies (leb first last) refl) ∙ sym (ap (in_stretch first last) same) ∙ o))
-
--- data stored one after the other
-pub laid-long : (log : List ℕ) (from at : ℕ) (mem : List ℕ) (n : ℕ) → length (laid log from at mem n) ≡ length mem
-unfolding laid
-laid-long log from at mem zero = refl
-laid-long log from at mem (suc n) = length-set (laid log from at mem n) (from_address at n) (get_or log (2 * (from + n) + 1) 0) ∙ laid-long log from at mem n
 
 laid_more : (log : List ℕ) (from at : ℕ) (mem : List ℕ) (n : ℕ)
     → set (laid log from at mem n) (from_address at n) (get_or log (2 * (from + n) + 1) 0) ≡ laid log from at mem (n + 1)
@@ -176,9 +80,6 @@ unfolding laid
 blocking log from n at mem l = record { low = l; few = omega arith; kinds = λ j h. absurd (omega arith); stores = refl }
 
 module _ {log : List ℕ} {from n at : ℕ} {mem₀ mem : List ℕ} {k : ℕ} (g : Blocking log from n at mem₀ mem k) where
-  pub blocking-long : length mem ≡ length mem₀
-  blocking-long = ap length g.stores ∙ laid-long log from at mem₀ k
-
   pub blocking-on : k < n → get_or log (2 * (from + k)) 0 ≡ 0 → {a : ℕ} → a ≡ from_address at k → Blocking log from n at mem₀ (set mem a (get_or log (2 * (from + k) + 1) 0)) (k + 1)
   blocking-on h z {a} e =
       record {
@@ -191,17 +92,6 @@ module _ {log : List ℕ} {from n at : ℕ} {mem₀ mem : List ℕ} {k : ℕ} (g
       go : (j : ℕ) → Dec (j < k) → j < k + 1 → get_or log (2 * (from + j)) 0 ≡ 0
       go j (yes i) l = g.kinds j i
       go j (no i) l = let e : j ≡ k = omega arith in ap (λ (x : ℕ). get_or log (2 * (from + x)) 0) e ∙ z
-
-  -- another kind, or no more
-  pub blocking-stops : (get_or log (2 * (from + k)) 0 ≡ 0 → ⊥) → Puts log from n at mem₀ mem k
-  blocking-stops z = record { low = g.low; few = g.few; some = λ h i. go i (dec_lt 0 k); kinds = g.kinds; stores = g.stores }
-    where
-      go : get_or log (2 * from) 0 ≡ 0 → Dec (0 < k) → 0 < k
-      go i (yes h) = h
-      go i (no h) = let e : from + k ≡ from = omega arith in absurd (z (ap (λ (x : ℕ). get_or log (2 * x) 0) e ∙ i))
-
-  pub blocking-ends : n ≤ k → Puts log from n at mem₀ mem k
-  blocking-ends h = record { low = g.low; few = g.few; some = λ i z. omega arith; kinds = g.kinds; stores = g.stores }
 
 -- and entered
 pub record Filling (log : List ℕ) (from n at : ℕ) (mem₀ mem : List ℕ) (before : Noting) (list : List ℕ) (k : ℕ) : Type 0 where
@@ -248,13 +138,27 @@ module _ {log : List ℕ} {from n at : ℕ} {mem₀ mem : List ℕ} {count : ℕ
           {b = true} (sym i) refl next-count room
           (f ∙ (λ t. sets list (4 * (count + k)) ((from + k) ∷ here t ∷ get_or (g.blocks.stores t) (here t) 0 ∷ get_or log (2 * (from + k) + 1) 0 ∷ [])))
 
-  pub filling-stops : (get_or log (2 * (from + k)) 0 ≡ 0 → ⊥) → Fills log from n at mem₀ mem (noting count list₀) list k
-  filling-stops z = record { blocks = blocking-stops g.blocks z; notes = g.notes }
+-- on what is lent
+pub record Filled (log : List ℕ) (from n at : ℕ) (mem₀ mem : List ℕ) (before notes : Notes) (k : ℕ) : Type 0 where
+  pub fills : Filling log from n at mem₀ mem (noting_of before) notes.list.now k
+  pub count : notes.count ≡ before.count
+  pub stays : Stays before notes
 
-  pub filling-ends : n ≤ k → k ≤ n → Fills log from n at mem₀ mem (noting count list₀) list n
-  filling-ends h l =
-      let e : k ≡ n = omega arith in
-      subst (λ (j : ℕ). Fills log from n at mem₀ mem (noting count list₀) list j) e (record { blocks = blocking-ends g.blocks h; notes = g.notes })
+pub filled : (log : List ℕ) (from n at : ℕ) (mem : List ℕ) (notes : Notes) → at < 65536 → Filled log from n at mem mem notes notes 0
+filled log from n at mem notes l =
+    record { fills = filling log from n at mem notes.count notes.list.now l; count = refl; stays = record { stretch = refl; same_list = refl } }
+
+pub filled-on : {log : List ℕ} {from n at : ℕ} {mem₀ mem : List ℕ} {before notes next : Notes} {k : ℕ} → Filled log from n at mem₀ mem before notes k
+    → k < n → at + n ≤ 65536 → 4 * (before.count + n) ≤ length before.list.now → length before.list.now < 2 ^ 64 → get_or log (2 * (from + k)) 0 ≡ 0
+    → Put notes (notes.count + k) (store (from + k) (at + k) (get_or mem (at + k) 0) (get_or log (2 * (from + k) + 1) 0)) next
+    → Filled log from n at mem₀ (set mem (at + k) (get_or log (2 * (from + k) + 1) 0)) before next (k + 1)
+filled-on {log} {from} {n} {at} {mem₀} {mem} {before} {notes} {next} {k} g h u r s z p =
+    record {
+      fills = filling-on g.fills h u r s z
+          (p.holds ∙ ap (λ (m : ℕ). sets notes.list.now (4 * (m + k)) ((from + k) ∷ (at + k) ∷ get_or mem (at + k) 0 ∷ get_or log (2 * (from + k) + 1) 0 ∷ [])) g.count);
+      count = p.count ∙ g.count;
+      stays = record { stretch = p.stays.stretch ∙ g.stays.stretch; same_list = p.stays.same_list ∙ g.stays.same_list };
+    }
 
 -- noted: none outside the stretch, all in it, counted alone where there is no room
 module _ (first last : ℕ) (f : ℕ → Store) (count : ℕ) (list : List ℕ) where
@@ -284,9 +188,6 @@ module _ (first last : ℕ) (f : ℕ → Store) (count : ℕ) (list : List ℕ) 
       ∙ ap (entered (f k)) (notes-full k r l (λ j i. h j (omega arith)))
       ∙ sym (ap (λ (t : Bool). cond t (entered (f k) (noted_each first last f k (noting count list))) (noted_each first last f k (noting count list))) (h k (omega arith)))
 
-pub with-room : (t : Bool) (n room : ℕ) → (t && ltb n room) ≡ true → n < room
-with-room t n room h = ltb-true n room (both_right t (ltb n room) h)
-
 -- as many as lie alike
 module _ {first last at : ℕ} {inside : Bool} (left : ℕ) {span : ℕ} (near : ℕ) (i : inside ≡ in_stretch first last at) (s : Spans first last at span) (e : near ≡ min left span) where
   alike : (t : Bool) → inside ≡ t → (k : ℕ) → k ≤ near → (j : ℕ) → j < k → in_stretch first last (from_address at j) ≡ t
@@ -296,19 +197,7 @@ module _ {first last at : ℕ} {inside : Bool} (left : ℕ) {span : ℕ} (near :
   wider l m b =
       record { low = b.low; few = omega (arith, b.few, e, l); some = λ h z. b.some (m (omega (arith, h, e, s.some))) z; kinds = b.kinds; stores = b.stores }
 
-  pub near-below : (t : Bool) → (inside && t) ≡ true → at + near ≤ 65536
-  near-below t h = let b = s.below (sym i ∙ both_left inside t h) in omega (arith, b, e)
-
   module _ {log : List ℕ} {from : ℕ} {mem after : List ℕ} {count : ℕ} {list : List ℕ} where
-    pub lays-filled : {room : ℕ} → room ≡ room_of list → (inside && ltb count room) ≡ true → {n : ℕ} → n ≡ min near (room - count) → {next : List ℕ} {k : ℕ}
-        → Fills log from n at mem after (noting count list) next k → Lays first last log from left at mem after (noting count list) (noting (count + k) next) k
-    lays-filled {room} r h {n} m {next} {k} b =
-        let some = with-room inside count room h in
-        record {
-          blocks = wider (omega (arith, m)) (λ q. omega (arith, m, q, some)) b.blocks;
-          notes = b.notes first last (alike true (both_left inside (ltb count room) h) k (omega (arith, b.blocks.few, m)));
-        }
-
     pub lays-counted : {room : ℕ} → room ≡ room_of list → count < 2 ^ 64 → (inside && ltb count room) ≡ false → inside ≡ true → {k : ℕ}
         → Puts log from near at mem after k → {r : ℕ} → r ≡ capped (count + k) → Lays first last log from left at mem after (noting count list) (noting r list) k
     lays-counted {room} r l h o {k} b f =

@@ -1,4 +1,3 @@
 pub mod Notes
 pub mod Laying
-pub mod Sayings
 pub mod Singly

@@ -2,7 +2,7 @@
 use native.Mathlib.Decide.{dec_lt}
 use Rattle.std.proofs.Common.{min, ◌≡◌, ℕ, zero, suc, ◌+◌, ◌-◌, ◌*◌, ◌^◌, ◌<◌, ◌≤◌, Bool, true, false, cond, not, ltb, List, [], ◌∷◌, length, sym, refl, ap, ◌∙◌, add-one, arith, ltb-false, le-ltb, lt-ltb}
 use lib.Seq.{sets, length-sets}
-use borrow.Author.Tests.{not-true, not-false}
+use borrow.Author.Tests.{not-false}
 use Rattle.noting.specs.Stretch.{Store, store, in_stretch}
 use Rattle.noting.specs.Noted.{room_of, capped, Noting, noting, entry_of, entered, noted_by, noted_each}
 
@@ -26,15 +26,7 @@ module _ (first last count pair address before after : ℕ) (list : List ℕ) wh
   by_tests t u =
       cond t (noting (capped (count + 1)) (cond u (sets list (4 * count) (pair ∷ address ∷ before ∷ after ∷ [])) list)) (noting count list)
 
-  pub note-outside : {b : Bool} → b ≡ in_stretch first last address → not b ≡ true → noting count list ≡ due
-  note-outside {b} e h = ap (λ (t : Bool). by_tests t (ltb count (room_of list))) (sym (not-true b h) ∙ e)
-
   module _ {b : Bool} (e : b ≡ in_stretch first last address) (h : not b ≡ false) {r : ℕ} (m : r ≡ capped (count + 1)) where
-    pub note-full : room_of list ≤ count → noting r list ≡ due
-    note-full l =
-        ap (λ (n : ℕ). noting n list) m
-        ∙ (λ i. by_tests ((sym (not-false b h) ∙ e) i) (sym (le-ltb count (room_of list) l) i))
-
     pub note-room : count < room_of list → {next : List ℕ} → next ≡ sets list (4 * count) (pair ∷ address ∷ before ∷ after ∷ []) → noting r next ≡ due
     note-room l {next} f =
         (λ i. noting (m i) (f i))
@@ -46,13 +38,6 @@ entered-long x n = go (ltb n.count (room_of n.list))
   where
     go : (t : Bool) → length (cond t (sets n.list (4 * n.count) (entry_of x)) n.list) ≡ length n.list
     go true = length-sets n.list (4 * n.count) (entry_of x)
-    go false = refl
-
-pub noted-long : (first last : ℕ) (x : Store) (n : Noting) → length (noted_by first last x n).list ≡ length n.list
-noted-long first last x n = go (in_stretch first last x.address)
-  where
-    go : (t : Bool) → length (cond t (entered x n) n).list ≡ length n.list
-    go true = entered-long x n
     go false = refl
 
 module _ (first last : ℕ) where
@@ -72,11 +57,6 @@ module _ (first last : ℕ) where
   unfolding noted_each
   notes-same f g zero n h = refl
   notes-same f g (suc k) n h = λ i. noted_by first last (h k (omega arith) i) (notes-same f g k n (λ j l. h j (omega arith)) i)
-
-  pub notes-long : (f : ℕ → Store) (k : ℕ) (n : Noting) → length (noted_each first last f k n).list ≡ length n.list
-  unfolding noted_each
-  notes-long f zero n = refl
-  notes-long f (suc k) n = noted-long first last (f k) (noted_each first last f k n) ∙ notes-long f k n
 
 pub capped-least : (n : ℕ) → capped n ≤ n
 capped-least n = go (ltb n (2 ^ 64)) refl

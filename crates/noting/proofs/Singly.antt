@@ -2,7 +2,7 @@
 use Rattle.std.proofs.Common.{◌≡◌, ℕ, ◌/◌, ◌%◌, ◌<◌, Bool, true, false, cond, eqb, ltb, sym, refl, ap, ◌∙◌, true≢false, arith, ne_eqb}
 use Rattle.ground.proofs.Tests.{cond_has}
 use Rattle.codes.specs.Command.{transfer_of, sight_code_of, bit_code_of, group_of, decode_of}
-use Rattle.controller.specs.Types.{Decoded, Defined, Store, Up, Down, Stay}
+use Rattle.controller.specs.Types.{Decoded}
 use Rattle.stores.specs.Stores.{code_stores}
 use Rattle.noting.specs.Types.{Panel, Registers}
 use Rattle.noting.specs.Stretch as stretch
@@ -22,15 +22,6 @@ module _ (p : Panel) (r : Registers) where
   past true x e k = absurd (true≢false e)
   past false x e k = k
 
-  transfers-none : (low : ℕ) → (low ≡ 0 → ⊥) → (low ≡ 2 → ⊥) → (low ≡ 4 → ⊥) → NoneBy (transfer_of low)
-  transfers-none low a b c =
-      past (eqb low 0) (Defined (Store Up)) (ne_eqb low 0 a)
-      (key (eqb low 1) (nothing refl)
-      (past (eqb low 2) (Defined (Store Down)) (ne_eqb low 2 b)
-      (key (eqb low 3) (nothing refl)
-      (past (eqb low 4) (Defined (Store Stay)) (ne_eqb low 4 c)
-      (key (eqb low 5) (nothing refl) (nothing refl))))))
-
   group-none : (high low : ℕ) → (high ≡ 12 → ⊥) → (high ≡ 14 → ⊥) → (high ≡ 15 → ⊥) → NoneBy (group_of high low)
   group-none high low a b c =
       key (eqb high 2) (key (eqb low 1) (nothing refl) (key (eqb low 2) (nothing refl) (key (eqb low 4) (nothing refl) (nothing refl))))
@@ -47,35 +38,16 @@ module _ (p : Panel) (r : Registers) where
 pub none_below : (p : Panel) (r : Registers) (k : ℕ) → k < 0xc0 → code_stores p r (decode_of k) ≡ 0
 none_below p r k h = (group-none p r (k / 16) (k % 16) (λ e. omega arith) (λ e. omega arith) (λ e. omega arith)).stores
 
-module _ {k : ℕ} where
-  -- C0H, C2H, C4H
-  pub single-transfer : k / 16 ≡ 12 → (low : ℕ) → k % 16 ≡ low → ((p : Panel) (r : Registers) → code_stores p r (transfer_of low) ≡ 1) → Singles k 1
-  single-transfer h low l e =
-      record { few = omega arith; counts = λ s p r. ap (λ (n : ℕ). code_stores p r (group_of n (k % 16))) h ∙ ap (λ (n : ℕ). code_stores p r (transfer_of n)) l ∙ e p r }
-
-  pub none-transfer : k / 16 ≡ 12 → (k % 16 ≡ 0 → ⊥) → (k % 16 ≡ 2 → ⊥) → (k % 16 ≡ 4 → ⊥) → Singles k 0
-  none-transfer h a b c =
-      record { few = omega arith; counts = λ s p r. ap (λ (n : ℕ). code_stores p r (group_of n (k % 16))) h ∙ (transfers-none p r (k % 16) a b c).stores }
-
-  -- F0H up
-  pub single-bit : k / 16 ≡ 15 → Singles k 1
-  single-bit h = record { few = omega arith; counts = λ s p r. ap (λ (n : ℕ). code_stores p r (group_of n (k % 16))) h }
-
-  pub none_other : (k / 16 ≡ 12 → ⊥) → (k / 16 ≡ 15 → ⊥) → Singles k 0
-  none_other a c = record { few = omega arith; counts = λ s p r. (group-none p r (k / 16) (k % 16) a s c).stores }
-
 -- one noted, or none
-module _ {first last k n : ℕ} (s : Singles k n) (x : stretch.Store) (low : x.address < 65536) (before : Noting) where
-  pub one-noted : n ≡ 1 → {y : Noting} → y ≡ noted_by first last x before → SingleNoted first last k x before y
+module _ {first last k : ℕ} (x : stretch.Store) (low : x.address < 65536) (before : Noting) where
+  pub one-noted : Singles k 1 → {y : Noting} → y ≡ noted_by first last x before → SingleNoted first last k x before y
   unfolding noted_each
-  one-noted e h =
+  one-noted s h =
       record {
         low = low;
-        notes = λ o p r f i. h ∙ (λ t. noted_by first last (sym i t) before) ∙ ap (λ (j : ℕ). noted_each first last f j before) (sym (s.counts o p r ∙ e));
+        notes = λ o p r f i. h ∙ (λ t. noted_by first last (sym i t) before) ∙ ap (λ (j : ℕ). noted_each first last f j before) (sym (s.counts o p r));
       }
 
-  pub none-noted : (n ≡ 1 → ⊥) → SingleNoted first last k x before before
+  pub none-noted : Singles k 0 → SingleNoted first last k x before before
   unfolding noted_each
-  none-noted e =
-      let z : n ≡ 0 = omega (arith, s.few, e) in
-      record { low = low; notes = λ o p r f i. ap (λ (j : ℕ). noted_each first last f j before) (sym (s.counts o p r ∙ z)) }
+  none-noted s = record { low = low; notes = λ o p r f i. ap (λ (j : ℕ). noted_each first last f j before) (sym (s.counts o p r)) }

@@ -4,4 +4,4 @@ pub use Rattle.state.specs.declared.registers.Display.{Display}
 pub use Rattle.state.specs.declared.registers.Bus.{Bus}
 pub use Rattle.state.specs.declared.registers.Registers.{Registers}
 pub use Rattle.usual.specs.declared.tell.Told.{Told}
-pub use Rattle.noting.specs.declared.say.Said.{Said}
+pub use Rattle.noting.specs.declared.note.Notes.{Notes}

@@ -4,3 +4,4 @@
 pub mod block;
 pub mod note;
 pub mod say;
+pub mod stretch;

@@ -1,60 +1,32 @@
 // A command told to the bus and the memory, and what it stored noted.
-ghost use Rattle.noting.specs.Noted.{noting};
-ghost use Rattle.noting.specs.Said.{Says};
+ghost use Rattle.std.specs.Prelude.{◌≡◌, None};
+ghost use Rattle.noting.specs.Notes.{noting_of, Stays};
+ghost use Rattle.noting.specs.Said.{said, Says};
 
-use super::note::note_one;
+use super::note::Notes;
 use effects::store::byte_there;
 use state::registers::Bus;
 use usual::tell::tell;
 
-// A command done or left: the bus and the entries needed then. A flag beside them, as in `usual::tell`, which the list's loop takes apart: an
-// Option was not measured there.
-#[derive(Clone, Copy, Debug, PartialEq, Eq)]
-pub struct Said {
-    pub bus: Bus,
-    pub count: usize,
-    pub done: bool,
-}
-
-// A command done, and its store noted, or left. E0H up are left: a copy stores many bytes.
+/// A command done, and its store noted: the bus then; or left, which gives none. E0H up are left: a copy stores many bytes.
 pub fn say(
+    notes: &mut Notes,
     bus: Bus,
     memory: &mut [u8],
     quiet: bool,
     code: u8,
     pair: usize,
-    list: &mut [usize],
-    count: usize,
-    first: u16,
-    last: u16,
-) -> Said
-    ensures { Says first last pair bus memory.old quiet code (noting count list.old) result memory.new list.new }
+) -> Option<Bus>
+    ensures says { Says notes.old.stretch.first notes.old.stretch.last pair bus memory.old quiet code (noting_of notes.old) (said bus result notes.new.count) memory.new notes.new.list.now }
+    ensures stays { Stays notes.old notes.new }
+    ensures left { (result ≡ None) → noting_of notes.new ≡ noting_of notes.old }
 {
     let was = byte_there(memory, bus.pointer);
     let told = tell(bus, memory, quiet & (code / 16 != 14), code);
-    if told.done {
-        let after = byte_there(memory, bus.pointer);
-        let noted = note_one(
-            list,
-            count,
-            pair,
-            bus.pointer,
-            was,
-            after,
-            code,
-            first,
-            last,
-        );
-        let next = told.bus;
-        return Said {
-            bus: next,
-            count: noted,
-            done: true,
-        };
+    if !told.done {
+        return None;
     }
-    Said {
-        bus,
-        count,
-        done: false,
-    }
+    let after = byte_there(memory, bus.pointer);
+    notes.note_one(pair, bus.pointer, was, after, code);
+    Some(told.bus)
 }

@@ -2,6 +2,8 @@
 #![tactic(auto)]
 
 use display::frame::paint;
+use printed::fill::zeroed;
+use printed::input::start_in;
 use printed::parts::{print_answers, print_line, print_refusal, print_rows};
 use state::panel::Panel;
 use state::registers::Registers;
@@ -9,6 +11,18 @@ use std::io::{Print, Result};
 
 // Bytes for the largest frame's rows.
 const ROWS: usize = 196608;
+
+// What is printed at a room's start, to standard output or standard error.
+fn write_text<P: Print, F: FnOnce(&mut [u8]) -> usize>(
+    to: &P,
+    room: &mut [u8],
+    print: F,
+) -> Result<()>
+    requires { F.IsAlwaysCallable print }
+{
+    let end = print(room);
+    to.write_all(start_in(room, end))
+}
 
 /// The run's line, to standard output or standard error: pairs taken, answers, refusal number and place.
 pub fn write_line(
@@ -18,39 +32,41 @@ pub fn write_line(
     number: u8,
     place: usize,
 ) -> Result<()> {
-    let mut line = [0u8; 112];
-    let end = print_line(pairs, answers, number, place, &mut line);
-    to.write_all(&line[..end])
+    write_text(
+        to,
+        &mut [0; 112],
+        |room| print_line(pairs, answers, number, place, room),
+    )
 }
 
-// The line of a refused pair.
-fn write_refusal(to: &impl Print, number: u8, place: usize) -> Result<()> {
-    let mut line = [0u8; 56];
-    let end = print_refusal(number, place, &mut line);
-    to.write_all(&line[..end])
-}
-
+// A count beside its list, here and below: docs/PROMISES.md names what this crate writes, and a caller may give any count.
 /// The lines of the first `count` pairs skipped, two numbers of the list each: refusal number, and place in a part of the log that begins
 /// `before` pairs behind the log's start, from which the line counts.
 pub fn write_skipped(to: &impl Print, skips: &[usize], count: usize, before: usize) -> Result<()> {
     for skip in skips.chunks_exact(2).take(count) {
-        write_refusal(to, (skip[0] % 256) as u8, before.wrapping_add(skip[1]))?;
+        let number = (skip[0] % 256) as u8;
+        let place = before.wrapping_add(skip[1]);
+        write_text(to, &mut [0; 56], |room| print_refusal(number, place, room))?;
     }
     Ok(())
 }
 
 /// The lines of the first `given` answers, at most 65,536.
 pub fn write_answers(to: &impl Print, given: usize, answers: &[u8]) -> Result<()> {
-    let mut out = [0u8; ROWS];
-    let end = print_answers(given, answers, &mut out);
-    to.write_all(&out[..end])
+    write_text(
+        to,
+        &mut zeroed::<ROWS>(),
+        |room| print_answers(given, answers, room),
+    )
 }
 
 /// A frame's rows; nothing where it is not of its panel's size.
 pub fn write_rows(to: &impl Print, panel: Panel, frame: &[u8]) -> Result<()> {
-    let mut out = [0u8; ROWS];
-    let end = print_rows(panel, frame, &mut out);
-    to.write_all(&out[..end])
+    write_text(
+        to,
+        &mut zeroed::<ROWS>(),
+        |room| print_rows(panel, frame, room),
+    )
 }
 
 /// The rows of the frame painted; of one that painting refuses, blank.

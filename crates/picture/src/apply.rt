@@ -1,9 +1,9 @@
 // Operations applied to planes and style, later over earlier.
-ghost use Rattle.std.specs.Prelude.{◌≡◌, ◌-◌, ◌*◌, ◌+◌, true, length, take, drop, set, get_or};
+ghost use Rattle.std.specs.Prelude.{◌≡◌, ◌-◌, ◌*◌, ◌+◌, ◌≤◌, true, length, set, get_or};
 ghost use Rattle.std.proofs.lemmas.List.Edits.{sets};
 ghost use Rattle.ground.specs.Bytes.{with_bit};
 ghost use Rattle.book.specs.Operation.{operation_of, dot_byte, dot_bit};
-ghost use Rattle.book.specs.Range.{InRange, TextRange, RectangleRange, DotRange, GlyphRange};
+ghost use Rattle.book.specs.Range.{InRange, TextRange, RectangleRange, DotRange};
 ghost use Rattle.book.specs.Screen.{operations_from};
 ghost use Rattle.picture.specs.Picture.{filled, applied};
 ghost use Rattle.state.specs.Sizes.{cell_count};
@@ -34,21 +34,14 @@ pub(crate) struct Canvas<'a> {
 
 // Functions of the one plane that each changes, here and below: as methods each would promise that the others stay.
 // Operation 1: a text's codes from its cell on.
-fn lay_text(
-    codes: &mut [u8],
-    panel: Panel,
-    line: usize,
-    column: usize,
-    book: &[u8],
-    from: usize,
-    n: usize,
-)
-    requires { InPlane panel (TextRange panel book.now line column from n) (cell_count panel) codes.old }
-    ensures { codes.new ≡ sets codes.old (line * panel.columns + column) (take n (drop from book.now)) }
+fn lay_text(codes: &mut [u8], panel: Panel, line: usize, column: usize, text: &[u8])
+    requires { InPlane panel (TextRange panel text.now line column 0 (length text.now)) (cell_count panel) codes.old }
+    ensures { codes.new ≡ sets codes.old (line * panel.columns + column) text.now }
 {
-    store(codes, line * panel.columns + column, book, from, n);
+    store(codes, line * panel.columns + column, text);
 }
 
+// The numbers of operation 2, one by one: the book's operation holds them so.
 // Operation 2, row by row.
 fn lay_rectangle(
     graphic: &mut [u8],
@@ -78,11 +71,11 @@ fn lay_dot(graphic: &mut [u8], panel: Panel, x: usize, y: usize, on: bool)
 }
 
 // Operation 4: eight rows to the place of their code.
-fn lay_glyph(glyphs: &mut [u8], panel: Panel, k: u8, book: &[u8], from: usize)
-    requires { InPlane panel (GlyphRange book.now k from) 1024 glyphs.old }
-    ensures { glyphs.new ≡ sets glyphs.old (8 * (k - 0x80)) (take 8 (drop from book.now)) }
+fn lay_glyph(glyphs: &mut [u8], k: u8, rows: &[u8])
+    requires { (0x80 ≤ k) × (length rows.now ≡ 8) × (length glyphs.old ≡ 1024) }
+    ensures { glyphs.new ≡ sets glyphs.old (8 * (k - 0x80)) rows.now }
 {
-    store(glyphs, 8 * (k - 0x80) as usize, book, from, 8);
+    store(glyphs, 8 * (k - 0x80) as usize, rows);
 }
 
 impl Canvas<'_> {
@@ -97,15 +90,10 @@ impl Canvas<'_> {
     {
         let panel = self.panel;
         match placed {
-            Placed::Text(line, column, from, n) => lay_text(
-                self.codes,
-                panel,
-                line as usize,
-                column as usize,
-                book,
-                from,
-                n as usize,
-            ),
+            Placed::Text(line, column, from, n) => {
+                let text = &book[from..from + n as usize];
+                lay_text(self.codes, panel, line as usize, column as usize, text)
+            }
             Placed::Rectangle(top, column, height, width, value) => lay_rectangle(
                 self.graphic,
                 panel,
@@ -116,7 +104,7 @@ impl Canvas<'_> {
                 value,
             ),
             Placed::Dot(x, y, on) => lay_dot(self.graphic, panel, x as usize, y as usize, on),
-            Placed::Glyph(k, from) => lay_glyph(self.glyphs, panel, k, book, from),
+            Placed::Glyph(k, from) => lay_glyph(self.glyphs, k, &book[from..from + 8]),
             Placed::Cursor(line, column, height, blink) => {
                 let cursor = Cursor {
                     x: column,

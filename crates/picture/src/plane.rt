@@ -1,15 +1,14 @@
 // Bytes stored one after the other in a plane.
-ghost use Rattle.std.specs.Prelude.{◌≡◌, ◌+◌, ◌≤◌, length, take, drop, replicate};
+ghost use Rattle.std.specs.Prelude.{◌≡◌, ◌+◌, ◌≤◌, length, replicate};
 ghost use Rattle.std.proofs.lemmas.List.Edits.{sets};
 ghost use Rattle.ground.specs.Lists.{zeros};
 
-// n bytes of the book from a place on.
-pub(crate) fn store(plane: &mut [u8], at: usize, book: &[u8], from: usize, n: usize)
-    requires n_in_bounds { at + n ≤ length plane.old }
-    requires n_in_bounds_2 { from + n ≤ length book.now }
-    ensures { plane.new ≡ sets plane.old at (take n (drop from book.now)) }
+// Bytes of the book, to a place and on.
+pub(crate) fn store(plane: &mut [u8], at: usize, bytes: &[u8])
+    requires { at + length bytes.now ≤ length plane.old }
+    ensures { plane.new ≡ sets plane.old at bytes.now }
 {
-    plane[at..at + n].copy_from_slice(&book[from..from + n]);
+    plane[at..at + bytes.len()].copy_from_slice(bytes);
 }
 
 // One byte n times from a place on.

@@ -7,7 +7,8 @@ use state::panel::Panel;
 use state::refusal::Refusal;
 use state::registers::Registers;
 
-// kept, here and below: a run's refusal stands in `Ran` as a number
+// A run's refusal stays a number, here and below: `play`, `play_on` and `close`, which docs/PROMISES.md names, take a `Ran` and answer for any
+// number that stands in it.
 /// The run so far, and how many answers the part gave.
 #[derive(Clone, Copy, Debug, PartialEq, Eq)]
 pub struct Played {

@@ -1,28 +1,21 @@
 -- What the input gives, and how long a text's parts are.
 use mathlib.Core.Path.{◌≡◌, refl, ap, sym, ◌∙◌}
 use mathlib.Core.List.{List}
-use Prim.Native.Nat.{ℕ, ◌+◌, ◌-◌, ◌*◌, ◌≤◌, ◌<◌, min}
+use Prim.Native.Nat.{ℕ, ◌+◌, ◌*◌, ◌≤◌, ◌<◌, min}
 use native.Mathlib.Nat.{mul-le-mul}
 use native.Mathlib.Decide.{dec_lt}
 use native.Mathlib.Omega.{arith}
-use lib.ListN.{length, take, drop, replicate, length-drop, length-replicate, drop_of_length-le}
-use lib.Seq.{take_all}
-use Rattle.ground.specs.Lists.{build, zeros}
+use lib.ListN.{length, take, replicate, length-replicate}
+use lib.Seq.{take_all, length-take-le}
+use Rattle.std.proofs.lemmas.List.{get_or-take}
+use Rattle.ground.specs.Lists.{build, joined, zeros}
 use Rattle.ground.specs.Packing.{row_bytes}
-use Rattle.ground.proofs.Lists.{build-length, joined_length}
+use Rattle.ground.proofs.Lists.{joined_length, joined-cong}
 use Rattle.state.specs.declared.panel.Panel.{Panel}
 use Rattle.state.proofs.Valid.{Panelled, narrow}
 use Rattle.printed.specs.Printed.{character_row, characters, frame_line, frame_lines}
-use Rattle.printed.specs.Text.{hex_line_at, hex_lines}
+use Rattle.printed.specs.Text.{hex_line, hex_line_at, hex_lines}
 use Rattle.printed.proofs.Puts.{dot-line-length}
-
--- the input from a place on
-pub rest-is : (l : List ℕ) (head : ℕ) {s : ℕ} → s ≡ min head (length l) → take (length l - s) (drop s l) ≡ drop head l
-rest-is l head {s} i = take_all (length l - s) (drop s l) (rw length-drop (omega arith)) ∙ go (dec_lt (length l) head)
-  where
-    go : Dec (length l < head) → drop s l ≡ drop head l
-    go (yes h) = drop_of_length-le l {i = s} (omega arith) ∙ sym (drop_of_length-le l {i = head} (omega arith))
-    go (no h) = let a : s ≡ head = omega arith in ap (λ (n : ℕ). drop n l) a
 
 -- the input up to a place
 pub start_is : (l : List ℕ) (most : ℕ) {e : ℕ} → e ≡ min most (length l) → take e l ≡ take most l
@@ -45,6 +38,13 @@ pub hex-lines-length : (given : ℕ) (bytes : List ℕ) → length (hex_lines gi
 unfolding hex_lines
 hex-lines-length given bytes = joined_length given 3 (hex_line_at bytes) (λ i. refl)
 
+-- the lines of the first bytes
+pub hex-lines-first : (given : ℕ) (bytes : List ℕ) → given ≤ length bytes → hex_lines (length (take given bytes)) (take given bytes) ≡ hex_lines given bytes
+unfolding hex_lines
+hex-lines-first given bytes h =
+    ap (λ (n : ℕ). joined n (hex_line_at (take given bytes))) (length-take-le given bytes h)
+    ∙ joined-cong given (hex_line_at (take given bytes)) (hex_line_at bytes) (λ i l. ap hex_line (get_or-take given bytes i 0 l))
+
 pub frame-lines-length : (p : Panel) (frame : List ℕ) → length (frame_lines p frame) ≡ 8 * p.lines * (p.columns * p.width + 1)
 unfolding frame_lines
 frame-lines-length p frame =
@@ -61,6 +61,3 @@ zeros-are n = refl
 pub characters-are : {rom : List ℕ} {n : ℕ} → rom ≡ build n character_row → n ≡ 1024 → rom ≡ characters
 unfolding characters
 characters-are h e = h ∙ ap (λ (m : ℕ). build m character_row) e
-
-pub characters-whole : {rom : List ℕ} → rom ≡ build 1024 character_row → (rom ≡ characters) × (1024 ≡ length rom)
-characters-whole h = (characters-are h refl, sym (ap length h ∙ build-length 1024 character_row))

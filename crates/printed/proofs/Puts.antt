@@ -8,7 +8,8 @@ use native.Mathlib.Omega.{arith}
 use lib.ListN.{length, get_or, take, drop, set, length-append, length-drop, take-append-drop}
 use lib.Seq.{sets, length-sets, sets-eq, take-suc, drop-drop, drop-append-le, length-take-le}
 use Rattle.ground.proofs.Lists.{build-length}
-use Rattle.printed.specs.Put.{TextPut}
+use Rattle.printed.specs.declared.put.Text.{Text}
+use Rattle.printed.specs.Put.{TextPut, Puts}
 use Rattle.printed.specs.Text.{dot_line}
 
 sets-append : (xs ys l : List ℕ) (i : ℕ) → sets (sets l i xs) (i + length xs) ys ≡ sets l i (xs ++ ys)
@@ -53,20 +54,31 @@ put-before {a} {b} {e} {xs} n few many x =
       ends = x.ends;
     }
 
--- so much of a text of `size` characters as a loop has written
-pub record Putting (a : List ℕ) (at : ℕ) (text : List ℕ) (size : ℕ) (b : List ℕ) (w : ℕ) : Type 0 where
-  pub put : TextPut a at text b w
-  pub place : w ≡ at + size
-  pub kept : length b ≡ length a
+-- the same of a text that is being put
+pub puts_both : {a b c : Text} {xs ys : List ℕ} → Puts a xs b → Puts b ys c → Puts a (xs ++ ys) c
+puts_both x y = record { put = put_both x.put y.put; kept = y.kept ∙ x.kept; same_room = y.same_room ∙ x.same_room }
 
-pub starts : (a : List ℕ) (at : ℕ) {text : List ℕ} {size : ℕ} → text ≡ [] → size ≡ 0 → Putting a at text size a at
-starts a at {text} {size} h z =
-    record { put = put_same (sym h) (record { holds = refl; ends = omega arith }); place = omega arith; kept = refl }
+pub puts_same : {a b : Text} {xs ys : List ℕ} → xs ≡ ys → Puts a xs b → Puts a ys b
+puts_same h x = record { put = put_same h x.put; kept = x.kept; same_room = x.same_room }
 
-pub goes : {a b c : List ℕ} {at w e size : ℕ} {text piece : List ℕ} → Putting a at text size b w → TextPut b w piece c e
-    → {next : List ℕ} → next ≡ text ++ piece → {longer : ℕ} → longer ≡ size + length piece → Putting a at next longer c e
+-- so much of a text, of `size` characters, as a loop has put
+pub record Putting (a : Text) (text : List ℕ) (size : ℕ) (b : Text) : Type 0 where
+  pub puts : Puts a text b
+  pub place : b.at ≡ a.at + size
+  pub kept : length b.room.now ≡ length a.room.now
+
+pub starts : (a : Text) {text : List ℕ} {size : ℕ} → text ≡ [] → size ≡ 0 → Putting a text size a
+starts a {text} {size} h z =
+    record {
+      puts = record { put = put_same (sym h) (record { holds = refl; ends = omega arith }); kept = refl; same_room = refl };
+      place = omega arith;
+      kept = refl;
+    }
+
+pub goes : {a b c : Text} {size : ℕ} {text piece : List ℕ} → Putting a text size b → Puts b piece c
+    → {next : List ℕ} → next ≡ text ++ piece → {longer : ℕ} → longer ≡ size + length piece → Putting a next longer c
 goes x y h l =
-    record { put = put_same (sym h) (put_both x.put y); place = omega (arith, x.place, y.ends); kept = put-length y ∙ x.kept }
+    record { puts = puts_same (sym h) (puts_both x.puts y); place = omega (arith, x.place, y.put.ends, l); kept = y.kept ∙ x.kept }
 
 pub take_more : (l : List ℕ) (i : ℕ) → i < length l → take (i + 1) l ≡ take i l ++ (get_or l i 0 ∷ [])
 take_more l i h = ap (λ (n : ℕ). take n l) (add-one i) ∙ take-suc l i 0 h

@@ -13,18 +13,15 @@ use Rattle.ground.specs.Packing.{row_bytes}
 use Rattle.ground.proofs.Tests.{both_left, both_right}
 use Rattle.state.specs.State.{valid_panel}
 use Rattle.state.specs.Sizes.{frame_fits}
-use Rattle.state.specs.Sizes.{frame_size, valid_size}
-use Rattle.state.proofs.Sizes.{is-size}
 use Rattle.state.proofs.Valid.{Panelled, panelled}
 use Rattle.state.specs.declared.panel.Panel.{Panel}
 use Rattle.printed.specs.Put.{TextPut}
 use Rattle.printed.specs.Printed.{frame_lines, printed, print_text}
-use Rattle.printed.specs.Screen.{screen_lines, picture_text, rehearsal_text, framed, lent_screen, print_picture_of, print_rehearsal_of}
+use Rattle.printed.specs.Screen.{screen_lines, framed, lent_screen, print_picture_of, print_rehearsal_of}
 use Rattle.printed.specs.Parts.{print_rows_of}
-use Rattle.printed.specs.Ready.{Lines}
 use Rattle.printed.proofs.Prints.{lines-few, frame-lines-length}
-use Rattle.printed.proofs.Puts.{put_same, put_both, put-length}
-use Rattle.printed.proofs.Texts.{printed-none, printed-all, printed-within, printed-settled}
+use Rattle.printed.proofs.Puts.{put_same, put_both}
+use Rattle.printed.proofs.Texts.{printed-none, printed-over, printed-settled}
 
 module _ (p : Panel) (number : ℕ) (frame : List ℕ) where
   -- the test, by what it found
@@ -35,12 +32,6 @@ module _ (p : Panel) (number : ℕ) (frame : List ℕ) where
     framed-by : framed p number frame ≡ (valid_panel p && frame_fits p frame)
     framed-by = ap (λ (t : Bool). cond t (valid_panel p && frame_fits p frame) true) (eq-eqb number 0 z)
 
-    pub framed-invalid : valid_panel p ≡ false → false ≡ framed p number frame
-    framed-invalid v = sym (ap (λ (t : Bool). t && frame_fits p frame) v) ∙ sym framed-by
-
-    pub framed-sized : valid_panel p ≡ true → {n : ℕ} → n ≡ valid_size p (frame_size p) → eqb (length frame) n ≡ framed p number frame
-    framed-sized v e = (λ k. sym v k && eqb (length frame) (is-size p v e k)) ∙ sym framed-by
-
     module _ (h : framed p number frame ≡ true) where
       pub framed-panel : Panelled p
       framed-panel = panelled p (both_left (valid_panel p) (frame_fits p frame) (sym framed-by ∙ h))
@@ -49,9 +40,6 @@ module _ (p : Panel) (number : ℕ) (frame : List ℕ) where
       framed-length =
           eqb-true (length frame) (8 * p.lines * row_bytes p.columns p.width)
           (both_right (valid_panel p) (frame_fits p frame) (sym framed-by ∙ h))
-
-    pub rows-put : {a b : List ℕ} {at e : ℕ} → TextPut a at (frame_lines p frame) b e → TextPut a at (screen_lines p number frame) b e
-    rows-put x = put_same (sym (ap (λ (t : Bool). cond t (frame_lines p frame) []) (eq-eqb number 0 z))) x
 
   pub rows_none : (number ≡ 0 → ⊥) → (a : List ℕ) (at : ℕ) → TextPut a at (screen_lines p number frame) a at
   rows_none nz a at =
@@ -86,14 +74,11 @@ module _ (p : Panel) (number : ℕ) (frame out line : List ℕ) {t : Bool} (i : 
     pub screen-room : length out ≡ 196608
     screen-room = eqb-true (length out) 196608 (both_right t _ h)
 
-    pub screen-ready : {b : List ℕ} {w : ℕ} → TextPut out 0 line b w → w ≤ 112 → Lines p number frame b w
-    screen-ready x s = record { framed = sym i ∙ both_left t _ h; behind = s; roomy = put-length x ∙ screen-room }
-
     pub screen-all : {b c : List ℕ} {w e : ℕ} → TextPut out 0 line b w → TextPut b w (screen_lines p number frame) c e → e ≤ 196608
-        → printed e c ≡ print_text (lent_screen p number frame out) (line ++ screen_lines p number frame) out
-    screen-all x y s =
-        printed-all (lent_screen p number frame out) (line ++ screen_lines p number frame) out (lent_is true h) (put_both x y)
-        (omega (arith, screen-room))
+        → {after : List ℕ} → after ≡ c → printed e after ≡ print_text (lent_screen p number frame out) (line ++ screen_lines p number frame) out
+    screen-all x y s f =
+        printed-over (lent_screen p number frame out) (line ++ screen_lines p number frame) out (lent_is true h) (put_both x y)
+        (omega (arith, screen-room)) f
 
 -- the rows alone
 module _ (p : Panel) (frame out : List ℕ) {t : Bool} (i : t ≡ framed p 0 frame) where
@@ -115,21 +100,11 @@ module _ (p : Panel) (frame out : List ℕ) {t : Bool} (i : t ≡ framed p 0 fra
     pub rows-room : 8 * p.lines * (p.columns * p.width + 1) ≤ length out
     rows-room = omega (arith, leb-true 164096 (length out) (both_right t _ h), lines-few p rows-panel)
 
-    pub rows-printed : {b : List ℕ} {w : ℕ} → TextPut out 0 (frame_lines p frame) b w → printed w b ≡ print_rows_of p frame out
+    pub rows-printed : {b : List ℕ} {w : ℕ} → TextPut out 0 (frame_lines p frame) b w → {after : List ℕ} → after ≡ b → printed w after ≡ print_rows_of p frame out
     unfolding print_rows_of
-    rows-printed x =
-        printed-all (valid_panel p && frame_fits p frame && leb 164096 (length out)) (frame_lines p frame) out (rows-lent true h) x
-        (omega (arith, x.ends, frame-lines-length p frame, rows-room))
-
-module _ (p : Panel) (number place : ℕ) (frame out : List ℕ) {b : List ℕ} {w : ℕ} where
-  -- the text stands in its room
-  pub picture-within : printed w b ≡ print_picture_of p number place frame out → w ≤ length b
-  unfolding print_picture_of
-  picture-within h = printed-within (lent_screen p number frame out) (picture_text p number place frame) out h
-
-  pub rehearsal-within : (pairs : ℕ) → printed w b ≡ print_rehearsal_of p pairs number place frame out → w ≤ length b
-  unfolding print_rehearsal_of
-  rehearsal-within pairs h = printed-within (lent_screen p number frame out) (rehearsal_text p pairs number place frame) out h
+    rows-printed x e =
+        printed-over (valid_panel p && frame_fits p frame && leb 164096 (length out)) (frame_lines p frame) out (rows-lent true h) x
+        (omega (arith, x.ends, frame-lines-length p frame, rows-room)) e
 
 -- two replies that meet a promise are equal
 pub print-picture-settled : {n k : ℕ} {b c : List ℕ} (p : Panel) (number place : ℕ) (frame out : List ℕ)

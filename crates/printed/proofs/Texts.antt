@@ -22,6 +22,11 @@ module _ (lent : Bool) (text out : List ℕ) where
       (λ k. printed (n k) (put-start x (omega arith) k))
       ∙ (λ k. cond (sym h k) (printed (length text) (text ++ drop (length text) out)) (printed 0 out))
 
+  -- the lent room ends as the text's
+  pub printed-over : lent ≡ true → {b : List ℕ} {w : ℕ} → TextPut out 0 text b w → w ≤ length out → {after : List ℕ} → after ≡ b
+      → printed w after ≡ print_text lent text out
+  printed-over h {w = w} x s e = ap (printed w) e ∙ printed-all h x s
+
   -- a room that keeps its length has held it
   pub printed-few : lent ≡ true → {b : List ℕ} {w : ℕ} → printed w b ≡ print_text lent text out → length b ≡ length out → length text ≤ length out
   printed-few h {b} e k =

@@ -1,6 +1,7 @@
 // The texts that the programs print.
 #![tactic(auto)]
 
+pub mod dot;
 pub mod fill;
 pub mod input;
 pub mod parts;

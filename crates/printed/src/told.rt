@@ -1,7 +1,7 @@
 // What a program has to tell.
 
 // No Result: a refused run prints a text too.
-// The bytes of text at a lent room's start, and the refusal number that they tell.
+/// The bytes of text at a lent room's start, and the refusal number that they tell.
 #[derive(Clone, Copy, Debug, PartialEq, Eq)]
 pub struct Told {
     pub count: usize,

@@ -16,6 +16,7 @@ pub struct Rehearsed {
     pub registers: Registers,
 }
 
+// Buffers as parameters: docs/PROMISES.md names this, and each one is lent by a caller that owns it.
 /// Writes a screen's stream into `room` and runs it from these registers: `memory` of 65,536 bytes and `rom` of 1,024; `frame`, a byte for
 /// each eight dots, is then the picture. Refused, with every lent buffer as it was: `Invalid` panel or registers, `WrongLength`, and what
 /// `write` refuses.

@@ -8,24 +8,18 @@ ghost use Rattle.state.specs.Sizes.{frame_size, valid_size};
 ghost use Rattle.rehearse.specs.Rehearsing.{rehearse_text_of};
 
 use contents::bytes::word_at;
-use printed::fill::{character_rom, empty_memory};
+use printed::fill::{character_rom, empty_memory, zeroed};
 use printed::input::{byte_in, panel_in, rest_in};
 use printed::screen::print_rehearsal;
 use printed::told::Told;
 use rehearsal::rehearse::rehearse;
-use report::{STDOUT_FILENO, has_argument, read_rom, read_whole, report};
+use report::{finish, has_argument, read_rom, read_whole};
 use state::panel::Panel;
 use state::registers::Registers;
-
-// Room for 1,048,576 pairs. The `ensures` gives only the length.
-fn empty_room() -> [u8; 2097152]
-    ensures { 2097152 ≡ length result }
-{
-    [0; 2097152]
-}
+use std::io::{Print, Result};
 
 // So many parameters: it exists because the frame is a part of an array that its caller owns.
-// A screen rehearsed from reset, as text.
+// A screen rehearsed from reset, as text. There is room for 1,048,576 pairs.
 fn print_screen(
     dual: bool,
     input: &[u8],
@@ -41,7 +35,7 @@ fn print_screen(
 {
     let key = word_at(input, 3) as usize;
     let book = rest_in(input, 5);
-    let mut room = empty_room();
+    let mut room = zeroed::<2097152>();
     let registers = Registers::reset();
     match rehearse(panel, registers, memory, rom, book, key, &mut room, frame) {
         Ok(run) => {
@@ -77,21 +71,20 @@ fn rehearse_text(dual: bool, rom: &[u8], input: &[u8], out: &mut [u8]) -> Told
     )
 }
 
-// Its own in each program: the room's length and what is shown differ, and a closure would be no plainer.
-// One byte past the limit shows that a book is too long.
-fn main(rt: HostRuntime) {
+// Its own in each program: the room's length and what is shown differ, and no public function has the `requires` that a closure needs.
+// The text printed: the screen's refusal number. One byte past the limit shows that a book is too long.
+fn show(rt: HostRuntime) -> Result<u8> {
     let mut rom = character_rom();
-    if read_rom(&mut rt.stdin(), has_argument(&rt, 1), &mut rom).is_err() {
-        return;
-    }
+    read_rom(&mut rt.stdin(), has_argument(&rt, 1), &mut rom)?;
     let mut input = [0u8; 32774];
-    let Ok(end) = read_whole(&mut rt.stdin(), &mut input) else {
-        return;
-    };
+    let end = read_whole(&mut rt.stdin(), &mut input)?;
     let mut out = [0u8; 196608];
     let told = rehearse_text(has_argument(&rt, 2), &rom, &input[..end], &mut out);
     let count = told.count;
-    if io::write_all(STDOUT_FILENO, &out[..count]) {
-        report(told.number);
-    }
+    rt.write_all(&out[..count])?;
+    Ok(told.number)
+}
+
+fn main(rt: HostRuntime) {
+    finish(show(rt));
 }

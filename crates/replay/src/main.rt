@@ -7,8 +7,9 @@ use output::{write_answers, write_frame, write_line, write_skipped};
 use playback::play::{begin, close, play, play_on};
 use printed::fill::empty_memory;
 use printed::input::panel_in;
-use report::{has_argument, read_whole, report};
+use report::{finish, has_argument, read_whole};
 use state::panel::Panel;
+use state::refusal::Refusal;
 use state::registers::Registers;
 use std::io::{Error, ErrorKind, Read, Result};
 
@@ -17,74 +18,76 @@ const PART: usize = 65536;
 
 const PARTS: u64 = 4294967296;
 
-// A part of the log played, its answers written: the run so far.
-fn play_part(
-    rt: HostRuntime,
+// What the log runs on.
+#[derive(Drop)]
+struct Machine<'a> {
     panel: Panel,
-    past: Ran,
-    memory: &mut [u8],
-    rom: &[u8],
-    part: &[u8],
-) -> Result<Ran> {
-    let mut answers = [0u8; PART / 2];
-    let played = play(panel, past, memory, rom, part, &mut answers);
-    write_answers(&rt, played.given, &answers)?;
-    Ok(played.ran)
+    memory: &'a mut [u8],
+    rom: &'a [u8],
 }
 
-// The same by the ordinary run, with a line for each pair skipped.
-fn go_on(
-    rt: HostRuntime,
-    panel: Panel,
-    past: Ran,
-    memory: &mut [u8],
-    rom: &[u8],
-    part: &[u8],
-) -> Result<Ran> {
-    let mut answers = [0u8; PART / 2];
-    let mut skips = [0usize; PART];
-    let played = play_on(panel, past, memory, rom, part, &mut answers, &mut skips);
-    write_answers(&rt, played.given, &answers)?;
-    write_skipped(&rt, &skips, played.skipped, past.taken)?;
-    Ok(played.ran)
-}
+impl Machine<'_> {
+    // A part of the log played, its answers written: the run so far.
+    fn play_part(&mut self, rt: HostRuntime, past: Ran, part: &[u8]) -> Result<Ran> {
+        let mut answers = [0u8; PART / 2];
+        let played = play(self.panel, past, self.memory, self.rom, part, &mut answers);
+        write_answers(&rt, played.given, &answers)?;
+        Ok(played.ran)
+    }
 
-// `keep` is no closure: that would take six parameters and a promise that it may be called.
-// Part after part, from reset, by the run asked for; the last one is shorter than the others.
-fn play_all(
-    rt: HostRuntime,
-    panel: Panel,
-    memory: &mut [u8],
-    rom: &[u8],
-    keep: bool,
-) -> Result<Ran> {
-    let mut ran = begin(Registers::reset());
-    let mut bytes: usize = 0;
-    for _ in 0..PARTS {
-        let mut part = [0u8; PART];
-        let count = read_whole(&mut rt.stdin(), &mut part)?;
-        let pairs = &part[..count / 2 * 2];
-        ran = if keep {
-            go_on(rt, panel, ran, memory, rom, pairs)?
-        } else {
-            play_part(rt, panel, ran, memory, rom, pairs)?
-        };
-        bytes = bytes.wrapping_add(count);
-        if count < PART {
-            let registers = Registers::reset();
-            return Ok(close(panel, registers, memory.len(), rom.len(), bytes, ran));
+    // The same by the ordinary run, with a line for each pair skipped.
+    fn go_on(&mut self, rt: HostRuntime, past: Ran, part: &[u8]) -> Result<Ran> {
+        let mut answers = [0u8; PART / 2];
+        let mut skips = [0usize; PART];
+        let played = play_on(
+            self.panel,
+            past,
+            self.memory,
+            self.rom,
+            part,
+            &mut answers,
+            &mut skips,
+        );
+        // where the answers can't be written the pairs skipped are tried all the same
+        let answered = write_answers(&rt, played.given, &answers);
+        let skipped = write_skipped(&rt, &skips, played.skipped, past.taken);
+        answered.and(skipped)?;
+        Ok(played.ran)
+    }
+
+    // `keep` is no closure: that would need a promise that it may be called again, and an `if` is plainer.
+    // Part after part, from reset, by the run asked for; the last one is shorter than the others.
+    fn play_all(&mut self, rt: HostRuntime, keep: bool) -> Result<Ran> {
+        let mut ran = begin(Registers::reset());
+        let mut bytes: usize = 0;
+        for _ in 0..PARTS {
+            let mut part = [0u8; PART];
+            let count = read_whole(&mut rt.stdin(), &mut part)?;
+            let pairs = &part[..count / 2 * 2];
+            ran = if keep {
+                self.go_on(rt, ran, pairs)?
+            } else {
+                self.play_part(rt, ran, pairs)?
+            };
+            bytes = bytes.wrapping_add(count);
+            if count < PART {
+                let registers = Registers::reset();
+                let memory = self.memory.len();
+                let rom = self.rom.len();
+                return Ok(close(self.panel, registers, memory, rom, bytes, ran));
+            }
         }
+        Err(Error::from(ErrorKind::FileTooLarge))
     }
-    Err(Error::from(ErrorKind::FileTooLarge))
-}
 
-// The run's line, and the rows of its frame, which refusals 1 and 8 have not.
-fn show(rt: HostRuntime, panel: Panel, ran: Ran, memory: &[u8], rom: &[u8]) -> Result<()> {
-    write_line(&rt, ran.taken, ran.answers, ran.number, ran.place)?;
-    if (ran.number == 1) | (ran.number == 8) {
-        return Ok(());
+    // The run's line, and the rows of its frame, which refusals 1 and 8 have not.
+    fn show(&self, rt: HostRuntime, ran: Ran) -> Result<()> {
+        write_line(&rt, ran.taken, ran.answers, ran.number, ran.place)?;
+        if let Ok(Refusal::Invalid | Refusal::OddLength) = Refusal::try_from(ran.number) {
+            return Ok(());
+        }
+        write_frame(&rt, self.panel, ran.registers, self.memory, self.rom)
     }
-    write_frame(&rt, panel, ran.registers, memory, rom)
 }
 
 // The log played and shown, and its refusal number.
@@ -98,15 +101,16 @@ fn replay(rt: HostRuntime) -> Result<u8> {
     let keep = has_argument(&rt, 2);
     let one = has_argument(&rt, 1) & !keep;
     let three = has_argument(&rt, 3) & !has_argument(&rt, 4);
-    let panel = panel_in(&head, one | three);
-    let mut memory = empty_memory();
-    let ran = play_all(rt, panel, &mut memory, &rom, keep)?;
-    show(rt, panel, ran, &memory, &rom)?;
+    let mut machine = Machine {
+        panel: panel_in(&head, one | three),
+        memory: &mut empty_memory(),
+        rom: &rom,
+    };
+    let ran = machine.play_all(rt, keep)?;
+    machine.show(rt, ran)?;
     Ok(ran.number)
 }
 
 fn main(rt: HostRuntime) {
-    if let Ok(number) = replay(rt) {
-        report(number);
-    }
+    finish(replay(rt));
 }

@@ -2,34 +2,45 @@
 // its own.
 #![tactic(auto)]
 
-ghost use Rattle.std.specs.Prelude.{IfOk};
+ghost use Rattle.std.specs.Prelude.{◌≡◌, IfOk, IfErr};
 ghost use Rattle.io.specs.Counts.{IsPrefixLen};
+ghost use Rattle.state.specs.Refusals.{number_of};
 
 use io::{print_decimal, write_all};
+use state::refusal::Refused;
 use std::env::FillError;
-use std::io::{Print, Read, Result};
+use std::io::{Error, Print, Read, Result};
 use std::rt::Env;
-
-// The standard output and the standard error, by their descriptors; they go with the last program that writes by `io`.
-pub const STDOUT_FILENO: i32 = 1;
-
-pub const STDERR_FILENO: i32 = 2;
 
 // Where a program reports; whoever starts it opens this descriptor, and where it is not open there is no report.
 const REPORT_FILENO: i32 = 3;
 
-/// Reads until the buffer is full or the input ends; how many bytes stand at the buffer's start then, or the error of the read that failed.
-pub fn read_whole<R: Read>(input: &mut R, buf: &mut [u8]) -> Result<usize>
-    ensures { IfOk result (λ count. IsPrefixLen count buf.new) }
+/// A read that failed: how many bytes stand at the buffer's start, and why no more came.
+#[derive(Clone, Copy, Debug)]
+pub struct Cut {
+    pub count: usize,
+    pub error: Error,
+}
+
+impl From<Cut> for Error {
+    fn from(cut: Cut) -> Error {
+        cut.error
+    }
+}
+
+/// Reads until the buffer is full, the input ends or a read fails: how many bytes stand at the buffer's start then.
+pub fn read_whole<R: Read>(input: &mut R, buf: &mut [u8]) -> std::result::Result<usize, Cut>
+    ensures whole { IfOk result (λ count. IsPrefixLen count buf.new) }
+    ensures cut { IfErr result (λ cut. IsPrefixLen cut.count buf.new) }
 {
     let mut done: usize = 0;
     // a `while`: each read says how many bytes it gave, and the input may end before the buffer does
     while done < buf.len() {
-        let count = input.read(&mut buf[done..])?;
-        if count == 0 {
-            break;
+        match input.read(&mut buf[done..]) {
+            Ok(0) => break,
+            Ok(count) => done += count,
+            Err(error) => return Err(Cut { count: done, error }),
         }
-        done += count;
     }
     Ok(done)
 }
@@ -50,9 +61,35 @@ pub fn put_refusal(out: &impl Print, number: u8, place: usize) -> Result<()> {
     println!(out; "refusal {number} place {place}")
 }
 
+/// The line of what was refused, and its number to report.
+pub fn put_refused(out: &impl Print, refused: Refused) -> Result<u8>
+    ensures { IfOk result (λ number. number ≡ number_of refused.refusal) }
+{
+    let number = refused.refusal.number();
+    put_refusal(out, number, refused.place).and(Ok(number))
+}
+
+/// The line of what came out, 0 and 0 where it was not refused, and its number to report.
+pub fn put_outcome<T>(out: &impl Print, outcome: &std::result::Result<T, Refused>) -> Result<u8>
+    ensures accepted { IfOk outcome.now (λ _. IfOk result (λ number. number ≡ 0)) }
+    ensures refused { IfErr outcome.now (λ refused. IfOk result (λ number. number ≡ number_of refused.refusal)) }
+{
+    match outcome {
+        Ok(_) => put_refusal(out, 0, 0).and(Ok(0)),
+        Err(refused) => put_refused(out, *refused),
+    }
+}
+
 /// The refusal number in decimal, to the line's end: all was read without an error and all was written, which is for the caller to see to.
 // by the kit's `io`: std has no safe handle for a descriptor that is not its own
 pub fn report(number: u8) {
     print_decimal(REPORT_FILENO, number as u64);
     write_all(REPORT_FILENO, b"\n");
+}
+
+/// A program's end: the number that it came to is reported, and nothing where a read or a write failed.
+pub fn finish(shown: Result<u8>) {
+    if let Ok(number) = shown {
+        report(number);
+    }
 }

@@ -31,7 +31,9 @@ fn copy_row(registers: &mut Registers, panel: Panel, memory: &mut [u8], rom: &[u
     }
 }
 
-// A panel, registers or lengths that are not right leave all as it was.
+/// What is displayed from the pointer's position to its row's end becomes the row's graphic bytes there, all gathered before any is stored, and
+/// error is reset; where the pointer has no position, in attribute mode and on a panel in two halves error is set and nothing stored. A panel, a
+/// display group or lengths that are not right leave all as it was.
 #[tactic(auto, unfolding(crate::specs::Sight::copied_all))]
 pub fn copy(registers: &mut Registers, panel: Panel, memory: &mut [u8], rom: &[u8])
     ensures { machine registers.new memory.new ≡ copied_all panel registers.old memory.old rom.now }

@@ -1,4 +1,5 @@
-// The door that peek and copy share.
+// The door that peek and copy share. Panel, memory and ROM come one by one, here as in what is behind it: the public functions and
+// `display::seen::row_layers` take them so, and no function between hands them on more than once.
 ghost use Rattle.std.specs.Prelude.{◌≡◌};
 ghost use Rattle.sight.specs.Sight.{sighted};
 

@@ -28,7 +28,8 @@ fn look(registers: &mut Registers, panel: Panel, memory: &[u8], rom: &[u8])
     }
 }
 
-// A panel, registers or lengths that are not right leave the bus as it was.
+/// The latch takes the displayed byte of the pointer's position, and error is reset; where the pointer has none, error is set. A panel, a display
+/// group or lengths that are not right leave the bus as it was.
 #[tactic(auto, unfolding(crate::specs::Sight::peeked_of))]
 pub fn peek(registers: &mut Registers, panel: Panel, memory: &[u8], rom: &[u8])
     ensures { registers.new ≡ with_bus registers.old (peeked_of panel registers.old memory.now rom.now) }

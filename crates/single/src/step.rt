@@ -20,12 +20,8 @@ use state::panel::Panel;
 use state::refusal::Refusal;
 use state::registers::{Auto, Move, Pending, Registers};
 
-const NONE: Pending = Pending {
-    count: 0,
-    older: 0,
-    newest: 0,
-};
-
+// Panel, memory and ROM one by one: `access` and, behind the last of these steps, `peek` and `copy` take them so, and a struct would be put
+// together for the way between.
 // What a command does, the data pending still there.
 fn effect(registers: &mut Registers, panel: Panel, memory: &mut [u8], rom: &[u8], command: Command)
     requires { Seeing panel registers.old.display memory.old rom.now }
@@ -74,7 +70,7 @@ fn command(
         return Err(Refusal::DataMissing);
     }
     effect(registers, panel, memory, rom, command);
-    registers.bus.pending = NONE;
+    registers.bus.pending = Pending::NONE;
     Ok(None)
 }
 

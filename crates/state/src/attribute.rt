@@ -6,7 +6,7 @@ ghost use Rattle.state.specs.Attribute.{look_of, shown_as, shades_of, shaded_rou
 
 use ground::bytes::full;
 
-// How a glyph row is shown.
+/// How a glyph row is shown.
 #[derive(Clone, Copy, Debug, PartialEq, Eq)]
 pub enum Manner {
     Normal,
@@ -14,7 +14,7 @@ pub enum Manner {
     Inhibit,
 }
 
-// What the table has for an attribute code.
+/// What the table has for an attribute code.
 #[derive(Clone, Copy, Debug, PartialEq, Eq)]
 pub struct Look {
     pub shown: Manner,
@@ -76,7 +76,7 @@ const LOOKS: [Look; 16] = [
     LEFT_OVER_BLINKING,
 ];
 
-// The table, for all that look codes up in it.
+/// The table, for all that look codes up in it.
 pub fn looks() -> [Look; 16]
     ensures { result ≡ build 16 look_of }
 {
@@ -109,7 +109,7 @@ fn all_or_none(width: usize, set: bool) -> u8
     0
 }
 
-// What dots that are all set, then all reset, become under each of the sixteen codes; eight are the most.
+/// What dots that are all set, then all reset, become under each of the sixteen codes; eight are the most.
 pub fn shades(width: usize, normal: bool) -> [u8; 32]
     ensures { result ≡ shades_of (min width 8) normal }
 {
@@ -122,8 +122,8 @@ pub fn shades(width: usize, normal: bool) -> [u8; 32]
     made
 }
 
-// Cells of w dots under their attributes, which stand from an address on, round: of each dot what its code makes of one that is set or reset.
-// Another length of memory or table leaves them as they were.
+/// Cells of w dots under their attributes, which stand from an address on, round: of each dot what its code makes of one that is set or reset.
+/// Another length of memory or table leaves them as they were.
 pub fn shade(width: usize, mem: &[u8], start: u16, table: &[u8], cells: &mut [u8])
     ensures { cells.new ≡ shaded_round width mem.now start table.now cells.old }
 {

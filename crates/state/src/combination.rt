@@ -2,17 +2,17 @@
 ghost use Rattle.std.specs.Prelude.{◌≡◌};
 ghost use Rattle.state.specs.Combination.{is_attribute, combined, mixed, mixed_round};
 
-use super::registers::Combination;
+use super::registers::{Combination, DisplayBits};
 use ground::bytes::low;
 
-// Whether it is attribute mode.
+/// Whether it is attribute mode.
 pub fn is_attribute(combination: Combination) -> bool
     ensures { result ≡ is_attribute combination }
 {
     combination == Combination::Attribute
 }
 
-// What text and graphic show together.
+/// What text and graphic show together.
 pub fn combine(combination: Combination, text: u8, graphic: u8) -> u8
     ensures { result ≡ combined combination text graphic }
 {
@@ -37,23 +37,22 @@ fn mix(text_on: bool, graphic_on: bool, combination: Combination, text: u8, grap
     graphic
 }
 
-// Cells of text, the graphic's bytes mixed in from an address on, round; a memory of another length leaves them as they were.
+/// Cells of text, the graphic's bytes mixed in from an address on, round; a memory of another length leaves them as they were.
 pub fn mix_round(
-    text_on: bool,
-    graphic_on: bool,
+    bits: DisplayBits,
     combination: Combination,
     width: usize,
     mem: &[u8],
     start: u16,
     cells: &mut [u8],
 )
-    ensures { cells.new ≡ mixed_round text_on graphic_on combination width mem.now start cells.old }
+    ensures { cells.new ≡ mixed_round bits.text bits.graphic combination width mem.now start cells.old }
 {
     if mem.len() == 65536 {
         let mut at = start;
         for cell in cells.iter_mut() {
             let graphic = low(width, mem[at as usize]);
-            *cell = mix(text_on, graphic_on, combination, *cell, graphic);
+            *cell = mix(bits.text, bits.graphic, combination, *cell, graphic);
             at = at.wrapping_add(1);
         }
     }

@@ -5,7 +5,7 @@ ghost use Rattle.state.specs.Halves.{cursor_y};
 ghost use Rattle.state.specs.Sizes.{row_size, frame_size, cell_count, valid_size};
 
 // No ghost facts: a panel that is not valid is an input too, refused as 1, so inner functions say `valid_panel`.
-// C columns, L character lines, cells of w dots; dual where it is scanned in two halves.
+/// C columns, L character lines, cells of w dots; dual where it is scanned in two halves.
 #[derive(Clone, Copy, Debug, PartialEq, Eq)]
 pub struct Panel {
     pub columns: usize,
@@ -15,6 +15,7 @@ pub struct Panel {
 }
 
 impl Panel {
+    /// Whether it is one that the controller drives: 1 to 80 columns of 6 or 8 dots, and lines that fit, 1 to 16, or, in two halves, 2 to 32 and even.
     pub fn valid(self) -> bool
         ensures { result ≡ valid_panel self }
     {
@@ -24,7 +25,7 @@ impl Panel {
             & ((self.width == 6) | (self.width == 8))
     }
 
-    // R, the bytes of a dot row; each size is 0 where the panel is not valid.
+    /// R, the bytes of a dot row; each size is 0 where the panel is not valid.
     pub fn row_size(self) -> usize
         ensures { result ≡ valid_size self (row_size self) }
     {
@@ -36,7 +37,7 @@ impl Panel {
         }
     }
 
-    // 8·L·R, the bytes of a frame.
+    /// 8·L·R, the bytes of a frame.
     pub fn frame_size(self) -> usize
         ensures value { result ≡ valid_size self (frame_size self) }
         ensures upper_bound { result ≤ 20480 }
@@ -48,7 +49,7 @@ impl Panel {
         }
     }
 
-    // C·L, the text plane's bytes.
+    /// C·L, the text plane's bytes.
     pub fn cell_count(self) -> usize
         ensures value { result ≡ valid_size self (cell_count self) }
         ensures upper_bound { result ≤ 2560 }
@@ -60,7 +61,7 @@ impl Panel {
         }
     }
 
-    // The cursor's Y on a line: the lower half's lines begin with 16.
+    /// The cursor's Y on a line: the lower half's lines begin with 16.
     pub fn cursor_y(self, line: u8) -> usize
         ensures { result ≡ cursor_y self line }
     {

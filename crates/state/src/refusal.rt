@@ -5,6 +5,7 @@ ghost use Rattle.state.specs.Refusals.{number_of, Numbers};
 use std::error::Error;
 use std::fmt;
 
+/// Why something asked for is refused, in the order of its numbers, 1 to 19; `Display` says each in words.
 #[derive(Clone, Copy, Debug, PartialEq, Eq)]
 pub enum Refusal {
     Invalid,
@@ -28,19 +29,19 @@ pub enum Refusal {
     UsesAnd,
 }
 
-// A refusal and what it names: the pair, the byte, the screen or the size; 0 where it names nothing.
+/// A refusal and what it names: the pair, the byte, the screen or the size; 0 where it names nothing.
 #[derive(Clone, Copy, Debug, PartialEq, Eq)]
 pub struct Refused {
     pub refusal: Refusal,
     pub place: usize,
 }
 
-// A number that no refusal has.
+/// A number that no refusal has.
 #[derive(Clone, Copy, Debug, PartialEq, Eq)]
 pub struct NoRefusal(pub u8);
 
 impl Refusal {
-    // The number that C and the programs give; 0 is acceptance.
+    /// The number that C and the programs give; 0 is acceptance.
     pub fn number(self) -> u8
         ensures { result ≡ number_of self }
     {

@@ -4,13 +4,14 @@ ghost use Rattle.state.specs.Address.{address_of};
 ghost use Rattle.state.specs.Codes.{combination_byte, auto_byte};
 ghost use Rattle.state.specs.State.{valid_display, valid_bus, valid_registers, reset_registers};
 
-// The home and the area of text or of graphic.
+/// The home and the area of text or of graphic.
 #[derive(Clone, Copy, Debug, PartialEq, Eq)]
 pub struct Plane {
     pub home: u16,
     pub area: u8,
 }
 
+/// The cursor's column, its Y and its height in rows, 1 to 8.
 #[derive(Clone, Copy, Debug, PartialEq, Eq)]
 pub struct Cursor {
     pub x: u8,
@@ -18,7 +19,7 @@ pub struct Cursor {
     pub height: u8,
 }
 
-// The four display bits.
+/// The four display bits.
 #[derive(Clone, Copy, Debug, PartialEq, Eq)]
 pub struct DisplayBits {
     pub graphic: bool,
@@ -27,6 +28,7 @@ pub struct DisplayBits {
     pub blink: bool,
 }
 
+/// How text and graphic make one picture.
 #[derive(Clone, Copy, Debug, PartialEq, Eq)]
 pub enum Combination {
     Or,
@@ -35,7 +37,7 @@ pub enum Combination {
     Attribute,
 }
 
-// All that decides what the panel shows. The phase is true where it is normal, false where it is off.
+/// All that decides what the panel shows. The phase is true where it is normal, false where it is off.
 #[derive(Clone, Copy, Debug, PartialEq, Eq)]
 pub struct Display {
     pub text: Plane,
@@ -48,6 +50,7 @@ pub struct Display {
     pub phase: bool,
 }
 
+/// Whether data go to and from memory one behind the other, and which way.
 #[derive(Clone, Copy, Debug, PartialEq, Eq)]
 pub enum Auto {
     Off,
@@ -55,7 +58,7 @@ pub enum Auto {
     Read,
 }
 
-// The last data written, 0 to 2 of them: one alone stands in newest, and a place that is not used holds 0.
+/// The last data written, 0 to 2 of them: one alone stands in newest, and a place that is not used holds 0.
 #[derive(Clone, Copy, Debug, PartialEq, Eq)]
 pub struct Pending {
     pub count: u8,
@@ -63,7 +66,7 @@ pub struct Pending {
     pub newest: u8,
 }
 
-// All that decides how the next access is taken. `auto` comes first and makes it ten bytes: one of eight is carried about as a single number.
+/// All that decides how the next access is taken. `auto` comes first and makes it ten bytes: one of eight is carried about as a single number.
 #[derive(Clone, Copy, Debug, PartialEq, Eq)]
 pub struct Bus {
     pub auto: Auto,
@@ -73,13 +76,14 @@ pub struct Bus {
     pub error: bool,
 }
 
+/// All registers.
 #[derive(Clone, Copy, Debug, PartialEq, Eq)]
 pub struct Registers {
     pub display: Display,
     pub bus: Bus,
 }
 
-// What the two data of a command set.
+/// What the two data of a command set.
 #[derive(Clone, Copy, Debug, PartialEq, Eq)]
 pub enum Target {
     Cursor,
@@ -91,7 +95,7 @@ pub enum Target {
     GraphicArea,
 }
 
-// How the pointer moves after a store or a load.
+/// How the pointer moves after a store or a load.
 #[derive(Clone, Copy, Debug, PartialEq, Eq)]
 pub enum Move {
     Up,
@@ -124,8 +128,17 @@ impl From<Auto> for u8 {
     }
 }
 
+impl Pending {
+    /// Nothing written, or all of it taken.
+    pub const NONE: Pending = Pending {
+        count: 0,
+        older: 0,
+        newest: 0,
+    };
+}
+
 impl Plane {
-    // Where it has the byte of a row in a column.
+    /// Where it has the byte of a row in a column.
     pub fn address(self, row: usize, column: usize) -> u16
         ensures { result ≡ address_of self row column }
     {
@@ -136,6 +149,7 @@ impl Plane {
 }
 
 impl Display {
+    /// Whether it is one that commands can make: X below 128, Y and offset below 32, a height of 1 to 8.
     pub fn valid(self) -> bool
         ensures { result ≡ valid_display self }
     {
@@ -148,6 +162,7 @@ impl Display {
 }
 
 impl Bus {
+    /// Whether it is one that accesses can make: at most two data pending, and 0 in a place that is not used.
     pub fn valid(self) -> bool
         ensures { result ≡ valid_bus self }
     {
@@ -158,6 +173,7 @@ impl Bus {
 }
 
 impl Registers {
+    /// Whether both groups are.
     pub fn valid(self) -> bool
         ensures { result ≡ valid_registers self }
     {
@@ -166,7 +182,7 @@ impl Registers {
         display.valid() & bus.valid()
     }
 
-    // The state after a reset, which is valid.
+    /// The state after a reset, which is valid.
     pub fn reset() -> Registers
         ensures value { result ≡ reset_registers }
         ensures result_value { valid_registers result ≡ true }
@@ -195,11 +211,7 @@ impl Registers {
             bus: Bus {
                 pointer: 0,
                 auto: Auto::Off,
-                pending: Pending {
-                    count: 0,
-                    older: 0,
-                    newest: 0,
-                },
+                pending: Pending::NONE,
                 latch: 0,
                 error: false,
             },

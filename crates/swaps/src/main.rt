@@ -6,49 +6,37 @@ use book::check::check;
 use ground::bytes::word;
 use order::swap::{Swap, may_swap};
 use printed::input::{byte_in, panel_in, rest_in};
-use report::{has_argument, put_refusal, read_whole, report};
+use report::{finish, has_argument, put_outcome, read_whole};
 use state::panel::Panel;
 use std::io::{Print, Result};
 
-// A line for each operation and the one behind it. A body has no more operations than the book has bytes.
+// A line for each operation and the one behind it; where one can't be written the others are tried all the same. A body has no more
+// operations than the book has bytes.
 fn put_swaps(out: &impl Print, panel: Panel, book: &[u8], key: usize) -> Result<()> {
+    let mut written = Ok(());
     for i in 0..book.len() {
-        match may_swap(panel, book, key, i) {
-            Ok(Swap::May) => println!(out; "{i} {} may", i + 1)?,
-            Ok(Swap::Stays) => println!(out; "{i} {} stays", i + 1)?,
-            Ok(Swap::NoTwo) | Err(_) => return Ok(()),
-        }
+        let line = match may_swap(panel, book, key, i) {
+            Ok(Swap::May) => println!(out; "{i} {} may", i + 1),
+            Ok(Swap::Stays) => println!(out; "{i} {} stays", i + 1),
+            Ok(Swap::NoTwo) | Err(_) => break,
+        };
+        written = written.and(line);
     }
-    Ok(())
+    written
 }
 
-fn show(
-    out: &impl Print,
-    panel: Panel,
-    book: &[u8],
-    key: usize,
-    number: u8,
-    place: usize,
-) -> Result<()> {
-    put_refusal(out, number, place)?;
-    put_swaps(out, panel, book, key)
-}
-
-// One byte past the limit shows that a book is too long.
-fn main(rt: HostRuntime) {
+// The screen's refusal number, its line and the swaps printed. One byte past the limit shows that a book is too long.
+fn show(rt: HostRuntime) -> Result<u8> {
     let mut input = [0u8; 32774];
-    let Ok(end) = read_whole(&mut rt.stdin(), &mut input) else {
-        return;
-    };
+    let end = read_whole(&mut rt.stdin(), &mut input)?;
     let all = &input[..end];
     let panel = panel_in(all, has_argument(&rt, 1));
     let key = word(byte_in(all, 3), byte_in(all, 4)) as usize;
     let book = rest_in(all, 5);
-    let (number, place) = match check(panel, book, key) {
-        Ok(_) => (0, 0),
-        Err(refused) => (refused.refusal.number(), refused.place),
-    };
-    if show(&rt, panel, book, key, number, place).is_ok() {
-        report(number);
-    }
+    let told = put_outcome(&rt, &check(panel, book, key));
+    put_swaps(&rt, panel, book, key).and(told)
+}
+
+fn main(rt: HostRuntime) {
+    finish(show(rt));
 }

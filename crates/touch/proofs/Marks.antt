@@ -2,18 +2,16 @@
 use Rattle.std.proofs.Common.{◌≡◌, ℕ, ◌+◌, ◌-◌, ◌*◌, ◌/◌, ◌%◌, ◌<◌, ◌≤◌, Bool, true, false, cond, ◌&&◌, ◌||◌, eqb, ltb, List, length, get_or, set, sym, refl, ap, ◌∙◌, arith, ext_get_or, ltb-false, ltb-true, lt-ltb, eqb-true}
 use Rattle.ground.specs.Lists.{build}
 use Rattle.ground.proofs.Lists.{build-length, build-at, build-cong}
-use Rattle.ground.proofs.Filling.{Filled, one_more, at-end, unwritten}
+use Rattle.ground.proofs.Filling.{Filled, one_more, unwritten}
 use Rattle.ground.proofs.Conjuncts.{neither}
-use Rattle.ground.proofs.Tests.{cond_has, both_left, both_right}
+use Rattle.ground.proofs.Tests.{both_right}
 use Rattle.state.specs.State.{valid_panel, valid_display}
-use Rattle.state.proofs.Valid.{panelled, displaying}
 use Rattle.stores.specs.Stores.{from_address}
-use Rattle.state.specs.Combination.{is_attribute}
-use Rattle.touch.specs.Types.{Panel, Combination, Display}
+use Rattle.touch.specs.Types.{Panel, Display}
 use Rattle.touch.specs.Touch.{any_of, plane_row, touches, touched_by}
 use Rattle.display.specs.Flagged.{flags_fit}
 use Rattle.touch.specs.Marked.{set_where, marked_of, marks_of}
-use Rattle.touch.specs.Ready.{Marking, row_meets, span_of, reaches_of, planes_meet, glyph_meets, near_bank, kept_flag}
+use Rattle.touch.specs.Ready.{row_meets, span_of, reaches_of, planes_meet, glyph_meets, near_bank, kept_flag}
 use Rattle.touch.proofs.Anys.{any-zero}
 use Rattle.touch.proofs.Meets.{row-reach, none-near, row_reads}
 
@@ -31,16 +29,9 @@ module _ (test : ℕ → Bool) (l₀ : List ℕ) where
   pub marks-one : {l : List ℕ} {row v : ℕ} → Filled mark_at l₀ l row → row < length l₀ → v ≡ kept_flag (test row) (get_or l row 0) → Filled mark_at l₀ (set l row v) (row + 1)
   marks-one {l} {row} k h f = one_more mark_at l₀ k h (f ∙ (λ i. cond (test row) 1 (unwritten mark_at l₀ k i)))
 
-  pub marks-all : (p : Panel) {l : List ℕ} {row : ℕ} → Filled mark_at l₀ l row → length l₀ ≡ 8 * p.lines → length l₀ ≤ row → l ≡ set_where p test l₀
-  marks-all p k e h = at-end mark_at l₀ k (8 * p.lines) e h
-
 -- a row of text and one of graphic
 abbrev pub plane_test : Display → ℕ → ℕ → ℕ → Bool → ℕ → Bool
 plane_test d C at n altered r = altered || (row_meets d.text (r / 8) C at n || row_meets d.graphic (plane_row d.combination r) C at n)
-
--- a line is no later than its rows
-pub plane-row-most : (k : Combination) (row : ℕ) → plane_row k row ≤ row
-plane-row-most k row = cond_has (λ (n : ℕ). n ≤ row) (is_attribute k) (omega arith) (omega arith)
 
 -- told in 16 bits: so many places that these can't say it reach every row
 wide : (S x y : ℕ) (altered : Bool) → x < 65536 → y < 65536 → ((altered || ltb 65535 S) || (ltb x (S % 65536) || ltb y (S % 65536))) ≡ (altered || (ltb x S || ltb y S))
@@ -117,30 +108,6 @@ module _ (p : Panel) (d : Display) (mem : List ℕ) (at n : ℕ) (altered : Bool
 
   abbrev fitting : Bool
   fitting = valid_display d && eqb (length mem) 65536 && flags_fit p l₀
-
-  pub door-opens : {v f : Bool} → v ≡ valid_panel p → v ≡ true → f ≡ valid_display d → ((f && eqb (length mem) 65536 && flags_fit p l₀) && (altered || ltb 0 n)) ≡ true
-      → Marking p d mem × (length l₀ ≡ 8 * p.lines)
-  door-opens {v} {f} e t g h =
-      let three = both_left (f && eqb (length mem) 65536 && flags_fit p l₀) (altered || ltb 0 n) h in
-      let two = both_left (f && eqb (length mem) 65536) (flags_fit p l₀) three in
-      let k = panelled p (sym e ∙ t) in (
-        record {
-          wide = omega (arith, k.some_columns);
-          columns = k.columns;
-          lines = k.lines;
-          offset = (displaying d (sym g ∙ both_left f (eqb (length mem) 65536) two)).offset;
-          memory = eqb-true (length mem) 65536 (both_right f (eqb (length mem) 65536) two);
-        },
-        eqb-true (length l₀) (8 * p.lines) (both_right (f && eqb (length mem) 65536) (flags_fit p l₀) three),
-      )
-
-  pub door-marks : {v f : Bool} {l : List ℕ} → v ≡ valid_panel p → v ≡ true → f ≡ valid_display d → ((f && eqb (length mem) 65536 && flags_fit p l₀) && (altered || ltb 0 n)) ≡ true
-      → l ≡ marked_of p d mem at n altered l₀ → l ≡ marks_of p d mem at n altered l₀
-  door-marks {v} {f} e t g h k =
-      k ∙ sym (λ i. asked ((sym e ∙ t) i) (((λ j. sym g j && eqb (length mem) 65536 && flags_fit p l₀) ∙ both_left (f && eqb (length mem) 65536 && flags_fit p l₀) (altered || ltb 0 n) h) i))
-
-  pub door-shut : {v : Bool} → v ≡ valid_panel p → v ≡ false → l₀ ≡ marks_of p d mem at n altered l₀
-  door-shut e t = sym (λ i. asked ((sym e ∙ t) i) fitting)
 
   -- not fitting, or nothing to mark
   pub door-idle : {v f : Bool} → v ≡ valid_panel p → v ≡ true → f ≡ valid_display d → ((f && eqb (length mem) 65536 && flags_fit p l₀) && (altered || ltb 0 n)) ≡ false

@@ -124,14 +124,6 @@ module _ (d : Display) (at n : ℕ) (la : at < 65536) where
       first-such : (v j : ℕ) → v < 8 → (at + j) % 8 ≡ v → (v + 8 - at % 8) % 8 ≤ j
       first-such v j l e = omega arith
 
--- what `near` comes to
-pub near-is : (d : Display) (at n : ℕ) {past ahead : ℕ} → at < 65536 → d.offset < 32 → past < 65536 → ahead < 65536
-    → (past + 2048 * d.offset) % 65536 ≡ at → (ahead + at) % 65536 ≡ 2048 * d.offset → (ltb past 2048 || ltb ahead n) ≡ near_bank d at n
-near-is d at n {past} {ahead} la lo lp lh e f =
-    let p : past ≡ (at + (65536 - 2048 * d.offset)) % 65536 = omega arith in
-    let a : ahead ≡ (2048 * d.offset + (65536 - at)) % 65536 = omega arith in
-    λ i. ltb (p i) 2048 || ltb (a i) n
-
 -- nothing to look for
 none-there : (p : Panel) (d : Display) (mem : List ℕ) (r at n : ℕ) (past ahead : ℕ) → at < 65536 → d.offset < 32 → ((i : ℕ) → get_or mem i 0 < 256)
     → past < 65536 → ahead < 65536 → (past + 2048 * d.offset) % 65536 ≡ at → (ahead + at) % 65536 ≡ 2048 * d.offset

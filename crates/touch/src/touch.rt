@@ -1,5 +1,5 @@
 // Which rows read one of some addresses that follow one another.
-ghost use Rattle.std.specs.Prelude.{◌≡◌, ◌+◌, ◌*◌, ◌/◌, ◌%◌, ◌<◌, ◌≤◌, ◌||◌, length};
+ghost use Rattle.std.specs.Prelude.{◌≡◌, ◌+◌, ◌*◌, ◌/◌, ◌%◌, ◌<◌, ◌≤◌, ◌||◌, ℕ, length, slice_index};
 ghost use Rattle.touch.specs.Touch.{plane_row};
 ghost use Rattle.touch.specs.Marked.{set_where, marked_of, marks_of};
 ghost use Rattle.touch.specs.Ready.{Marking, span_of, reaches_of, code_meets, line_meets, glyph_meets, planes_meet, near_bank, kept_flag};
@@ -40,46 +40,6 @@ fn hits(display: Display, code: u8, v: usize, at: u16, n: usize) -> bool
     !(!display.external & (code < 128)) & (ahead < n)
 }
 
-// No struct of these, here and below: `Marking` says once what is known, and each function reads two or three.
-// One of the codes of a row's line.
-fn search(panel: Panel, display: Display, memory: &[u8], row: usize, at: u16, n: usize) -> bool
-    requires { Marking panel display memory.now }
-    ensures { result ≡ line_meets panel display memory.now row at n }
-{
-    let v = row % 8;
-    let start = display.text.address(row / 8, 0);
-    for column in 0..panel.columns {
-        let from = start.wrapping_add(column as u16) as usize;
-        if hits(display, memory[from], v, at, n) {
-            return true;
-        }
-    }
-    false
-}
-
-// A row's codes are read only where one of the addresses has the row's last three bits.
-fn glyphs(panel: Panel, display: Display, memory: &[u8], row: usize, at: u16, n: usize) -> bool
-    requires { Marking panel display memory.now }
-    ensures { result ≡ glyph_meets panel display memory.now row at n }
-{
-    let next = (row % 8 + 8 - (at as usize) % 8) % 8;
-    if next < n {
-        return search(panel, display, memory, row, at, n);
-    }
-    false
-}
-
-// Whether the addresses meet the 2,048 bytes at the offset.
-fn near(display: Display, at: u16, n: usize) -> bool
-    requires { display.offset < 32 }
-    ensures { result ≡ near_bank display at n }
-{
-    let bank = (2048 * (display.offset as usize)) as u16;
-    let past = at.wrapping_sub(bank) as usize;
-    let ahead = bank.wrapping_sub(at) as usize;
-    (past < 2048) | (ahead < n)
-}
-
 // A graphic byte stands by its dot row, an attribute byte by its line.
 fn plane_row(combination: Combination, row: usize) -> usize
     ensures { result ≡ plane_row combination row }
@@ -100,73 +60,106 @@ fn kept(set: bool, flag: u8) -> u8
     flag
 }
 
-// By text and graphic or attribute bytes: a subtraction each, no byte read. All in 16 bits, so that many rows are compared at once: so many
-// places that 16 bits can't say it reach every row.
-fn mark_planes(panel: Panel, display: Display, at: u16, n: usize, altered: bool, flags: &mut [u8])
-    requires columns_nonzero { (0 < panel.columns) × (panel.columns ≤ 80) × (panel.lines ≤ 32) }
-    requires flags_len { length flags.old ≡ 8 * panel.lines }
-    ensures { flags.new ≡ set_where panel (λ r. altered || planes_meet panel display at n r) flags.old }
-{
-    let columns = panel.columns;
-    let combination = display.combination;
-    let low = at.wrapping_sub((columns - 1) as u16);
-    let places = span(columns, n);
-    let every = altered | (65535 < places);
-    let within = (places % 65536) as u16;
-    for (row, flag) in flags.iter_mut().enumerate() {
-        let text = reaches(display.text, row / 8, low, within);
-        let graphic = reaches(display.graphic, plane_row(combination, row), low, within);
-        *flag = kept(every | (text | graphic), *flag);
-    }
-}
-
-// A flag that is 1 stays so whatever the row's codes are.
-fn glyph_flag(
+// Addresses that follow one another, `n` from `at` on, and what the rows of a panel read: tested once at the door.
+#[derive(Drop)]
+struct Stored<'a> {
     panel: Panel,
     display: Display,
-    memory: &[u8],
-    row: usize,
+    memory: &'a [u8],
     at: u16,
     n: usize,
-    flag: u8,
-) -> u8
-    requires { Marking panel display memory.now }
-    ensures { result ≡ kept_flag (glyph_meets panel display memory.now row at n) flag }
-{
-    if flag == 1 {
-        return 1;
-    }
-    kept(glyphs(panel, display, memory, row, at, n), flag)
+    ghost marking: { Marking panel display memory.now },
+    ghost low: { at < 65536 },
+    ghost bytes: { (i : ℕ) → slice_index memory.now i < 256 },
 }
 
-// By glyph bytes.
-fn mark_glyphs(panel: Panel, display: Display, memory: &[u8], at: u16, n: usize, flags: &mut [u8])
-    requires marking { Marking panel display memory.now }
-    requires flags_len { length flags.old ≡ 8 * panel.lines }
-    ensures { flags.new ≡ set_where panel (λ r. glyph_meets panel display memory.now r at n) flags.old }
-{
-    for (row, flag) in flags.iter_mut().enumerate() {
-        *flag = glyph_flag(panel, display, memory, row, at, n, *flag);
+impl Stored<'_> {
+    // One of the codes of a row's line.
+    fn search(&self, row: usize) -> bool
+        ensures { result ≡ line_meets self.now.panel self.now.display self.now.memory.now row self.now.at self.now.n }
+    {
+        let v = row % 8;
+        let start = self.display.text.address(row / 8, 0);
+        // over columns: a line may run past FFFFH, so that no slice has its codes
+        for column in 0..self.panel.columns {
+            let from = start.wrapping_add(column as u16) as usize;
+            if hits(self.display, self.memory[from], v, self.at, self.n) {
+                return true;
+            }
+        }
+        false
     }
-}
 
-// The flags of all rows.
-fn mark_rows(
-    panel: Panel,
-    display: Display,
-    memory: &[u8],
-    at: u16,
-    n: usize,
-    altered: bool,
-    flags: &mut [u8],
-)
-    requires marking { Marking panel display memory.now }
-    requires flags_len { length flags.old ≡ 8 * panel.lines }
-    ensures { flags.new ≡ marked_of panel display memory.now at n altered flags.old }
-{
-    mark_planes(panel, display, at, n, altered, flags);
-    if near(display, at, n) {
-        mark_glyphs(panel, display, memory, at, n, flags);
+    // A row's codes are read only where one of the addresses has the row's last three bits.
+    fn glyphs(&self, row: usize) -> bool
+        ensures { result ≡ glyph_meets self.now.panel self.now.display self.now.memory.now row self.now.at self.now.n }
+    {
+        let next = (row % 8 + 8 - (self.at as usize) % 8) % 8;
+        if next < self.n {
+            return self.search(row);
+        }
+        false
+    }
+
+    // Whether the addresses meet the 2,048 bytes at the offset.
+    fn near(&self) -> bool
+        ensures { result ≡ near_bank self.now.display self.now.at self.now.n }
+    {
+        let bank = (2048 * (self.display.offset as usize)) as u16;
+        let past = self.at.wrapping_sub(bank) as usize;
+        let ahead = bank.wrapping_sub(self.at) as usize;
+        (past < 2048) | (ahead < self.n)
+    }
+
+    // By text and graphic or attribute bytes: a subtraction each, no byte read. All in 16 bits, so that many rows are compared at once: so many
+    // places that 16 bits can't say it reach every row.
+    fn mark_planes(&self, altered: bool, flags: &mut [u8])
+        requires { length flags.old ≡ 8 * self.now.panel.lines }
+        ensures { flags.new ≡ set_where self.now.panel (λ r. altered || planes_meet self.now.panel self.now.display self.now.at self.now.n r) flags.old }
+    {
+        let display = self.display;
+        let columns = self.panel.columns;
+        let combination = display.combination;
+        let low = self.at.wrapping_sub((columns - 1) as u16);
+        let places = span(columns, self.n);
+        let every = altered | (65535 < places);
+        let within = (places % 65536) as u16;
+        for (row, flag) in flags.iter_mut().enumerate() {
+            let text = reaches(display.text, row / 8, low, within);
+            let graphic = reaches(display.graphic, plane_row(combination, row), low, within);
+            *flag = kept(every | (text | graphic), *flag);
+        }
+    }
+
+    // A flag that is 1 stays so whatever the row's codes are.
+    fn glyph_flag(&self, row: usize, flag: u8) -> u8
+        ensures { result ≡ kept_flag (glyph_meets self.now.panel self.now.display self.now.memory.now row self.now.at self.now.n) flag }
+    {
+        if flag == 1 {
+            return 1;
+        }
+        kept(self.glyphs(row), flag)
+    }
+
+    // By glyph bytes.
+    fn mark_glyphs(&self, flags: &mut [u8])
+        requires { length flags.old ≡ 8 * self.now.panel.lines }
+        ensures { flags.new ≡ set_where self.now.panel (λ r. glyph_meets self.now.panel self.now.display self.now.memory.now r self.now.at self.now.n) flags.old }
+    {
+        for (row, flag) in flags.iter_mut().enumerate() {
+            *flag = self.glyph_flag(row, *flag);
+        }
+    }
+
+    // The flags of all rows.
+    fn mark_rows(&self, altered: bool, flags: &mut [u8])
+        requires { length flags.old ≡ 8 * self.now.panel.lines }
+        ensures { flags.new ≡ marked_of self.now.panel self.now.display self.now.memory.now self.now.at self.now.n altered flags.old }
+    {
+        self.mark_planes(altered, flags);
+        if self.near() {
+            self.mark_glyphs(flags);
+        }
     }
 }
 
@@ -186,7 +179,14 @@ pub fn mark(
     if panel.valid() {
         let fits = display.valid() & (memory.len() == 65536) & (flags.len() == 8 * panel.lines);
         if fits & (altered | (0 < n)) {
-            mark_rows(panel, display, memory, at, n, altered, flags);
+            let stored = Stored {
+                panel,
+                display,
+                memory,
+                at,
+                n,
+            };
+            stored.mark_rows(altered, flags);
         }
     }
 }

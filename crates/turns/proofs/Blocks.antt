@@ -1,5 +1,5 @@
 -- The pairs of a log from a place on, and a block of data among them.
-use Rattle.std.proofs.Common.{◌≡◌, ℕ, zero, suc, ◌+◌, ◌-◌, ◌*◌, ◌/◌, ◌%◌, ◌<◌, ◌≤◌, min, Bool, true, false, cond, ◌&&◌, eqb, leb, List, [], ◌∷◌, ◌++◌, length, get_or, take, drop, set, sym, refl, ap, ◌∙◌, true≢false, append_assoc, append-nil, add-one, arith, length-append, eq-eqb, ne_eqb, eqb-true, le-leb, leb-true}
+use Rattle.std.proofs.Common.{◌≡◌, ℕ, zero, suc, ◌+◌, ◌-◌, ◌*◌, ◌/◌, ◌%◌, ◌<◌, ◌≤◌, min, Bool, true, false, cond, ◌&&◌, eqb, leb, List, [], ◌∷◌, ◌++◌, length, get_or, take, drop, set, sym, refl, ap, ◌∙◌, subst, true≢false, append_assoc, append-nil, add-one, arith, length-append, eq-eqb, ne_eqb, eqb-true, le-leb, leb-true}
 use native.Mathlib.Decide.{dec_lt}
 use lib.Bits.{bit_or, or_add_and, and_le_l, and_le_r}
 use lib.Seq.{append_snoc}
@@ -56,6 +56,12 @@ module _ {log : List ℕ} {from total i : ℕ} (k : Scanning log from total i) w
 
   pub scan-one : i < total → get_or log (2 * i) 0 ≡ 0 → Scanning log from total (i + 1)
   scan-one h z = scan-on 1 (omega arith) (λ j l. let e : i + j ≡ i = omega arith in ap (λ (x : ℕ). get_or log (2 * x) 0) e ∙ z)
+
+  -- all of them seen
+  pub scan-over : total ≤ i → Scanned log from total total
+  scan-over h =
+      let e : i ≡ total = omega (arith, k.inside) in
+      record { seen = subst (Scanning log from total) e k; stops = λ l. absurd (omega arith) }
 
 or-none : (a b : ℕ) → bit_or a b ≡ 0 → (a ≡ 0) × (b ≡ 0)
 or-none a b e = (omega (arith, e, or_add_and a b, and_le_r a b), omega (arith, e, or_add_and a b, and_le_l a b))
@@ -163,8 +169,10 @@ module _ {m₀ : List ℕ} {start : ℕ} {log : List ℕ} {from total : ℕ} {m 
   pub begin-stops : (get_or log (2 * i) 0 ≡ 0 → ⊥) → Begun m₀ start log from total m i
   begin-stops z = record { low = k.first; scanned = record { seen = k.seen; stops = λ h. z }; holds = k.holds }
 
-  pub begin-ends : total ≤ i → Begun m₀ start log from total m i
-  begin-ends h = record { low = k.first; scanned = record { seen = k.seen; stops = λ l. absurd (omega arith) }; holds = k.holds }
+  pub begin-ends : total ≤ i → Begun m₀ start log from total m total
+  begin-ends h =
+      let e : i ≡ total = omega (arith, k.seen.inside) in
+      record { low = k.first; scanned = scan-over k.seen h; holds = k.holds ∙ ap (λ (x : ℕ). stored m₀ start (bytes_from log from (x - from))) e }
 
 -- stopped among the first, or gone on behind them
 module _ {mem : List ℕ} {start : ℕ} {log : List ℕ} {from near total : ℕ} {mid : List ℕ} {first : ℕ} (b : Begun mem start log from near mid first) (few : near ≤ total) (l : 2 * total ≤ length log) where
@@ -195,33 +203,6 @@ module _ {mem : List ℕ} {start : ℕ} {log : List ℕ} {from near total : ℕ}
             ∙ sym (stored-join (bytes_from log from n) (data_of (pairs_from log first total)) mem start b.low) ∙ ap (stored mem start) (sym d);
         reaches = let a = ap length d ∙ length-append (bytes_from log from n) (data_of (pairs_from log first total)) in omega (arith, a, bytes-length log from n, i, k.reaches);
       }
-
--- before byte j of a stretch
-pub record Laying (m₀ : List ℕ) (at : ℕ) (log : List ℕ) (from n : ℕ) (m : List ℕ) (j : ℕ) : Type 0 where
-  pub inside : j ≤ n
-  pub holds : m ≡ stored m₀ at (bytes_from log from j)
-
-pub lay-starts : (m₀ : List ℕ) (at : ℕ) (log : List ℕ) (from n : ℕ) → Laying m₀ at log from n m₀ 0
-unfolding build stored
-lay-starts m₀ at log from n = record { inside = omega arith; holds = refl }
-
-module _ {m₀ : List ℕ} {at : ℕ} {log : List ℕ} {from n : ℕ} {m : List ℕ} {j : ℕ} (k : Laying m₀ at log from n m j) where
-  pub lay-long : length m ≡ length m₀
-  lay-long = ap length k.holds ∙ stored-length m₀ at (bytes_from log from j)
-
-  pub lay-on : j < n → at + n ≤ 65536 → Laying m₀ at log from n (set m (at + j) (get_or log (2 * (from + j) + 1) 0)) (j + 1)
-  unfolding stored
-  lay-on h l =
-      let e : at + j ≡ (at + length (bytes_from log from j)) % 65536 = omega (arith, bytes-length log from j) in
-      record {
-        inside = omega arith;
-        holds = (λ t. set (k.holds t) (e t) (get_or log (2 * (from + j) + 1) 0))
-            ∙ sym (stored-join (bytes_from log from j) (get_or log (2 * (from + j) + 1) 0 ∷ []) m₀ at (omega arith))
-            ∙ ap (stored m₀ at) (sym (build-more j (λ i. get_or log (2 * (from + i) + 1) 0)));
-      }
-
-  pub lay-ends : n ≤ j → m ≡ stored m₀ at (bytes_from log from n)
-  lay-ends h = let e : j ≡ n = omega (arith, k.inside) in k.holds ∙ ap (λ (x : ℕ). stored m₀ at (bytes_from log from x)) e
 
 -- before the stretch from pair i on: the data before it are stored, so many are left
 pub record Blocking (m₀ : List ℕ) (start : ℕ) (log : List ℕ) (from end : ℕ) (m : List ℕ) (at i left : ℕ) : Type 0 where

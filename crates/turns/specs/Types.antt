@@ -2,3 +2,4 @@
 pub use Rattle.state.specs.declared.registers.Bus.{Bus}
 pub use Rattle.state.specs.declared.registers.Registers.{Registers}
 pub use Rattle.turns.specs.declared.note.Noted.{Noted}
+pub use Rattle.turns.specs.declared.taken.Taken.{Taken}

@@ -4,19 +4,17 @@ ghost use Rattle.ground.specs.Lists.{stored};
 ghost use Rattle.effects.specs.Effect.{with_pointer};
 ghost use Rattle.turns.specs.Blocked.{bytes_from, AllData, Scanning, Scanned, Begun, Blocked, Blocks};
 
-use ground::bytes::lesser;
 use state::registers::Bus;
 
+// A log and places of it, here and below, no slice of its pairs: a block's place is what a run asks for, and the definitions speak of it.
 // The kinds of sixteen pairs, or-ed together: 0 where all are data.
 fn kinds(log: &[u8], from: usize) -> u8
     requires { 2 * (from + 16) ≤ length log.now }
     ensures { result ≡ 0 → AllData log.now from 16 }
 {
     let mut any: u8 = 0;
-    let mut j: usize = 0;
-    while j < 16 {
-        any = any | log[2 * (from + j)];
-        j += 1;
+    for j in 0..16 {
+        any |= log[2 * (from + j)];
     }
     any
 }
@@ -27,6 +25,7 @@ fn scan_sixteens(log: &[u8], from: usize, total: usize) -> usize
     ensures { Scanning log.now from total result }
 {
     let mut i = from;
+    // a `while`: sixteen at a time, as many as there are
     while i + 16 <= total {
         if kinds(log, i) != 0 {
             return i;
@@ -41,14 +40,12 @@ fn scan(log: &[u8], from: usize, total: usize) -> usize
     requires { (2 * total ≤ length log.now) × (from ≤ total) }
     ensures { Scanned log.now from total result }
 {
-    let mut end = scan_sixteens(log, from, total);
-    while end < total {
+    for end in scan_sixteens(log, from, total)..total {
         if log[2 * end] != 0 {
             return end;
         }
-        end += 1;
     }
-    end
+    total
 }
 
 // The bytes of n pairs, stored from an address on, none past the memory's end. No test in the loop: it goes many at a time.
@@ -57,10 +54,8 @@ fn store_stretch(mem: &mut [u8], at: usize, log: &[u8], from: usize, n: usize)
     requires n_in_bounds { 2 * (from + n) ≤ length log.now }
     ensures { mem.new ≡ stored mem.old at (bytes_from log.now from n) }
 {
-    let mut j: usize = 0;
-    while j < n {
-        mem[at + j] = log[2 * (from + j) + 1];
-        j += 1;
+    for (j, byte) in mem[at..at + n].iter_mut().enumerate() {
+        *byte = log[2 * (from + j) + 1];
     }
 }
 
@@ -71,20 +66,19 @@ fn store_few(mem: &mut [u8], start: u16, log: &[u8], from: usize, total: usize) 
     ensures { Begun mem.old start log.now from total mem.new result }
 {
     let mut pointer = start;
-    let mut i = from;
-    while i < total {
+    for i in from..total {
         if log[2 * i] != 0 {
             return i;
         }
-        let at = pointer as usize;
-        mem[at] = log[2 * i + 1];
-        pointer = std::num::wrapping_add_u16(pointer, 1);
-        i += 1;
+        mem[pointer as usize] = log[2 * i + 1];
+        pointer = pointer.wrapping_add(1);
     }
-    i
+    total
 }
 
-// The data from a place on, stored from an address on, in stretches that end where the memory does.
+// The data from a place on, stored from an address on, in stretches that end where the memory does. Not inlined: in a run's loop few pairs
+// come here, and with this in it stores between status reads took 4.4 ns a pair for 3.6.
+#[inline(never)]
 fn store_data(mem: &mut [u8], start: u16, log: &[u8], from: usize, total: usize) -> usize
     requires mem_len { length mem.old ≡ 65536 }
     requires total_in_bounds { (2 * total ≤ length log.now) × (from ≤ total) }
@@ -96,7 +90,7 @@ fn store_data(mem: &mut [u8], start: u16, log: &[u8], from: usize, total: usize)
     let mut at = start as usize;
     // a `while`: a stretch ends where the memory does, so that no step is fixed
     while 0 < left {
-        let n = lesser(left, 65536 - at);
+        let n = left.min(65536 - at);
         store_stretch(mem, at, log, i, n);
         i += n;
         left -= n;
@@ -105,36 +99,30 @@ fn store_data(mem: &mut [u8], start: u16, log: &[u8], from: usize, total: usize)
     end
 }
 
-// The data from a place on, as they follow one another, stored from an address on: the place of the first pair behind them; none where less
-// is lent. Where they are more than sixteen, in stretches behind these: a line of text has few, and a search for many would cost it more.
+/// The data from a place on, as they follow one another, stored from an address on: the place of the first pair behind them; none where less
+/// is lent. Where they are more than sixteen, in stretches behind these: a line of text has few, and a search for many would cost it more.
 pub fn block(mem: &mut [u8], start: u16, log: &[u8], from: usize, total: usize) -> usize
     ensures { Blocks mem.old start log.now from total mem.new result }
 {
     let lent = (mem.len() == 65536) & (total <= log.len() / 2);
     if lent & (from <= total) {
-        let near = lesser(total, from + 16);
+        let near = total.min(from + 16);
         let first = store_few(mem, start, log, from, near);
         if first < near {
             return first;
         }
-        let next = std::num::wrapping_add_u16(start, (first - from) as u16);
+        let next = start.wrapping_add((first - from) as u16);
         return store_data(mem, next, log, first, total);
     }
     from
 }
 
-// The pointer behind a block of so many data, all else as it was: data pending from before stay.
+/// The pointer behind a block of so many data, all else as it was: data pending from before stay.
 pub fn passed(bus: Bus, count: usize) -> Bus
     ensures { result ≡ with_pointer bus ((bus.pointer + count) % 65536) }
 {
-    let auto = bus.auto;
-    let kept = bus.pending;
-    let far = (count % 65536) as u16;
     Bus {
-        auto,
-        pointer: std::num::wrapping_add_u16(bus.pointer, far),
-        pending: kept,
-        latch: bus.latch,
-        error: bus.error,
+        pointer: bus.pointer.wrapping_add((count % 65536) as u16),
+        ..bus
     }
 }

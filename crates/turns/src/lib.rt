@@ -1,5 +1,6 @@
-// A pair of a run: what its access comes to, what its number does, and many data at once.
+// A pair of a run: what it leaves where it is taken, what its number does, and many data at once.
 #![tactic(auto)]
 
 pub mod block;
 pub mod note;
+pub mod taken;

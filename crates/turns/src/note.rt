@@ -2,18 +2,21 @@
 ghost use Rattle.std.specs.Prelude.{◌≡◌};
 ghost use Rattle.turns.specs.Noted.{noted_all, noted_of};
 
-// What a pair's number comes to: 0 where the run goes on, else the number it stops by; the pairs listed so far.
+use state::refusal::Refusal;
+
+// Numbers, not a `Refusal`: docs/PROMISES.md names `note`, which answers for any of them.
+/// What a pair's number comes to: 0 where the run goes on, else the number that it stops by; and the pairs listed so far.
 #[derive(Clone, Copy, Debug, PartialEq, Eq)]
 pub struct Noted {
     pub listed: usize,
     pub number: u8,
 }
 
-// A pair behind its turn: where the run is skipping, number and place of a refused one go into the list, 16 where that is full. 13 stops either run.
+/// A pair behind its turn: where the run is skipping, number and place of a refused one go into the list, 16 where that is full. 13 stops either run.
 pub fn note(skipping: bool, number: u8, place: usize, skips: &mut [usize], listed: usize) -> Noted
     ensures { noted_all result skips.new ≡ noted_of skipping number place skips.old listed }
 {
-    if skipping & (number != 0) & (number != 13) {
+    if skipping & (number != 0) & (number != Refusal::NoRoomForAnswer.number()) {
         if listed < skips.len() / 2 {
             skips[2 * listed] = number as usize;
             skips[2 * listed + 1] = place;
@@ -22,7 +25,10 @@ pub fn note(skipping: bool, number: u8, place: usize, skips: &mut [usize], liste
                 number: 0,
             };
         }
-        return Noted { listed, number: 16 };
+        return Noted {
+            listed,
+            number: Refusal::NoRoomForSkipped.number(),
+        };
     }
     Noted { listed, number }
 }

@@ -3,6 +3,7 @@ ghost use Rattle.usual.specs.Done.{asked};
 ghost use Rattle.usual.specs.Ready.{Asks};
 
 use codes::command::is_off;
+use codes::pair::Kind;
 use effects::effect::{bus_status, is_read, moved};
 use effects::store::byte_there;
 use state::registers::{Bus, Move};
@@ -27,21 +28,21 @@ pub fn ask(
 {
     let auto = bus.auto;
     let room = given < answers.len();
-    if (kind == 3) & room {
+    if (kind == Kind::Status as u8) & room {
         answers[given] = bus_status(bus, phase);
         return Some(Asked {
             bus,
             given: given + 1,
         });
     }
-    if (kind == 2) & room & is_off(auto) {
+    if (kind == Kind::Read as u8) & room & is_off(auto) {
         answers[given] = bus.latch;
         return Some(Asked {
             bus,
             given: given + 1,
         });
     }
-    if (kind == 2) & room & is_read(auto) {
+    if (kind == Kind::Read as u8) & room & is_read(auto) {
         answers[given] = byte_there(mem, bus.pointer);
         let next = Bus {
             pointer: moved(Move::Up, bus.pointer),

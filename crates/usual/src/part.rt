@@ -1,5 +1,5 @@
-// What a datum, a command of the display, B2H and a tick do. Each copies and then sets a field: with `..bus` in place of that the run's single
-// stores were a fifth slower.
+// What a datum, a command of the display, B2H and a tick do. Each copies and then sets a field: with `..bus` in place of that stores between
+// status reads took 4.3 ns a pair for 3.8.
 ghost use Rattle.std.specs.Prelude.{◌≡◌, not};
 ghost use Rattle.state.specs.State.{none};
 ghost use Rattle.effects.specs.Effect.{with_pending, with_auto, with_phase, pushed};
@@ -8,21 +8,16 @@ ghost use Rattle.usual.specs.Types.{Off};
 use effects::effect::push;
 use state::registers::{Auto, Bus, Display, Pending};
 
-// None pending.
+/// None pending.
 pub fn emptied(bus: Bus) -> Bus
     ensures { result ≡ with_pending bus none }
 {
-    let none = Pending {
-        count: 0,
-        older: 0,
-        newest: 0,
-    };
     let mut next = bus;
-    next.pending = none;
+    next.pending = Pending::NONE;
     next
 }
 
-// Auto off, none pending.
+/// Auto off, none pending.
 pub fn freed(bus: Bus) -> Bus
     ensures { result ≡ with_pending (with_auto bus Off) none }
 {
@@ -31,7 +26,7 @@ pub fn freed(bus: Bus) -> Bus
     emptied(next)
 }
 
-// A datum pending.
+/// A datum pending.
 pub fn datum(bus: Bus, byte: u8) -> Bus
     ensures { result ≡ with_pending bus (pushed bus.pending byte) }
 {
@@ -42,7 +37,7 @@ pub fn datum(bus: Bus, byte: u8) -> Bus
     next
 }
 
-// The other phase.
+/// The other phase.
 pub fn ticked(display: Display) -> Display
     ensures { result ≡ with_phase display (not display.phase) }
 {

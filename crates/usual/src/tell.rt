@@ -6,7 +6,8 @@ use effects::store::{change, fetch, put};
 use ground::bytes::word;
 use state::registers::{Auto, Bus, Move, Pending};
 
-// A command of the bus alone, done or left as it was. An Option was tried: the run's single stores were half as slow again.
+// No Option: with one the run's single stores were half as slow again.
+/// A command of the bus alone, done or left as it was.
 #[derive(Clone, Copy, Debug, PartialEq, Eq)]
 pub struct Told {
     pub bus: Bus,
@@ -20,18 +21,13 @@ fn left(bus: Bus) -> Told
 }
 
 // Codes once more beside `codes::decode`: a decoded command is an enum and goes through memory (docs/SPEED.md).
-// The commands that a drawing program sends most: pointer, auto, stores, loads and bits, where they are taken. Any other is left.
+/// The commands that a drawing program sends most: pointer, auto, stores, loads and bits, where they are taken. Any other is left.
 pub fn tell(bus: Bus, mem: &mut [u8], quiet: bool, code: u8) -> Told
     ensures { Tells bus mem.old quiet code result mem.new }
 {
     let pending = bus.pending;
-    let none = Pending {
-        count: 0,
-        older: 0,
-        newest: 0,
-    };
     let mut next = bus;
-    next.pending = none;
+    next.pending = Pending::NONE;
     if quiet {
         match code {
             0x24 => {

@@ -4,4 +4,4 @@ pub use Rattle.state.specs.declared.registers.Display.{Display}
 pub use Rattle.state.specs.declared.registers.Registers.{Registers}
 pub use Rattle.controller.specs.declared.run.RanOn.{RanOn}
 pub use Rattle.turns.specs.declared.note.Noted.{Noted}
-pub use Rattle.watch.specs.declared.run.Taken.{Taken}
+pub use Rattle.turns.specs.declared.taken.Taken.{Taken}

@@ -9,6 +9,7 @@ ghost use Rattle.watch.specs.Watched.{ran_flags, begun_flags, ran_flags_of, flag
 ghost use Rattle.watch.specs.Runs.{standing_flags, flag_turn, Quickly, Stretched};
 
 use codes::command::is_off;
+use codes::pair::Kind;
 use controller::run::{RanOn, ended};
 use effects::effect::{is_write, with_auto};
 use flags::follow::access;
@@ -19,15 +20,8 @@ use state::registers::{Auto, Registers};
 use touch::touch::mark;
 use turns::block::{block, passed};
 use turns::note::note;
+use turns::taken::Taken;
 use usual::part::{datum, emptied, freed};
-
-// The registers behind a pair that is taken, and the answers given so far: by value, since a local that is lent would stay in memory for the
-// whole loop.
-#[derive(Clone, Copy, Debug, PartialEq, Eq)]
-pub(crate) struct Taken {
-    pub registers: Registers,
-    pub given: usize,
-}
 
 // One pair; what a read gives goes into the buffer.
 fn turn(
@@ -99,19 +93,19 @@ fn at_once(registers: Registers, kind: u8, byte: u8) -> Option<Registers>
     let bus = registers.bus;
     let auto = bus.auto;
     let off = is_off(auto);
-    if (kind == 0) & off {
+    if (kind == Kind::Data as u8) & off {
         let bus = datum(bus, byte);
         return Some(Registers { display, bus });
     }
-    if (kind == 1) & (byte == 0xb2) {
+    if (kind == Kind::Command as u8) & (byte == 0xb2) {
         let bus = freed(bus);
         return Some(Registers { display, bus });
     }
-    if (kind == 1) & off & (byte == 0xb0) {
+    if (kind == Kind::Command as u8) & off & (byte == 0xb0) {
         let bus = with_auto(emptied(bus), Auto::Write);
         return Some(Registers { display, bus });
     }
-    if (kind == 1) & off & (byte == 0x24) & (2 <= bus.pending.count) {
+    if (kind == Kind::Command as u8) & off & (byte == 0x24) & (2 <= bus.pending.count) {
         let mut next = emptied(bus);
         next.pointer = word(bus.pending.older, bus.pending.newest);
         return Some(Registers { display, bus: next });
@@ -120,7 +114,8 @@ fn at_once(registers: Registers, kind: u8, byte: u8) -> Option<Registers>
 }
 
 // A loop of its own beside `controller::run`'s: here a block and a pair also mark the rows that they touch.
-// The first `total` pairs of a log, on what is known to be valid. A `while`, since a block takes many at once.
+// The first `total` pairs of a log, on what is known to be valid. A `while`, since a block takes many at once. `given` and `listed` stay numbers
+// beside their buffers, as `note` takes them: lent in a struct, a local stays in memory for the whole loop.
 fn pairs(
     panel: Panel,
     registers: Registers,
@@ -145,7 +140,7 @@ fn pairs(
         let byte = log[2 * i + 1];
         let bus = state.bus;
         let auto = bus.auto;
-        if (kind == 0) & is_write(auto) {
+        if (kind == Kind::Data as u8) & is_write(auto) {
             let end = stretch(panel, state, memory, log, i, total, flags);
             state = Registers {
                 display: state.display,
@@ -196,15 +191,15 @@ pub fn run(
 {
     let valid = panel.valid() & registers.valid();
     if !valid {
-        return ended(1, 0, 0, 0, registers, 0);
+        return ended(Refusal::Invalid.number(), 0, 0, 0, registers, 0);
     }
     let fits = (memory.len() == 65536) & (rom.len() == 1024) & (flags.len() == 8 * panel.lines);
     if !fits {
-        return ended(2, 0, 0, 0, registers, 0);
+        return ended(Refusal::WrongLength.number(), 0, 0, 0, registers, 0);
     }
     let whole = log.len() / 2;
     if log.len() % 2 != 0 {
-        return ended(8, whole, 0, 0, registers, 0);
+        return ended(Refusal::OddLength.number(), whole, 0, 0, registers, 0);
     }
     let total = limit.min(whole);
     pairs(

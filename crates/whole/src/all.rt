@@ -1,6 +1,5 @@
 // All of a log by the stopping run, whatever its length.
-ghost use Rattle.std.specs.Prelude.{◌≡◌, length};
-ghost use Rattle.ground.specs.Lists.{zeros};
+ghost use Rattle.std.specs.Prelude.{◌≡◌};
 ghost use Rattle.whole.specs.Whole.{ran_whole, whole_of};
 ghost use Rattle.whole.specs.Played.{without_given, played_part};
 
@@ -12,19 +11,12 @@ use state::registers::Registers;
 // Bytes of a part: 4,096 pairs, with room for an answer to each.
 const PART: usize = 8192;
 
-fn no_answers() -> [u8; 4096]
-    ensures value { result ≡ zeros 4096 }
-    ensures value_2 { 4096 ≡ length result }
-{
-    [0; 4096]
-}
-
 // The next part, its answers dropped.
-#[tactic(auto, unfolding(crate::specs::Played::played_part))]
+#[tactic(auto, unfolding(crate::specs::Played::played_part, ground::specs::Lists::zeros))]
 fn play_part(panel: Panel, past: Ran, mem: &mut [u8], rom: &[u8], part: &[u8]) -> Ran
     ensures { ran_whole result mem.new ≡ without_given (played_part panel past mem.old rom.now part.now) }
 {
-    let mut answers = no_answers();
+    let mut answers = [0u8; 4096];
     let played = play(panel, past, mem, rom, part, &mut answers);
     played.ran
 }

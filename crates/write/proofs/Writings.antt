@@ -2,12 +2,11 @@
 use mathlib.Core.Path.{◌≡◌, refl, ap, sym, ◌∙◌}
 use mathlib.Core.Bool.{Bool, true, false, cond, not, ◌&&◌}
 use mathlib.Core.List.{List, [], ◌∷◌, ◌++◌, append-nil}
-use Prim.Native.Nat.{ℕ, suc, ◌+◌, ◌-◌, ◌*◌, ◌≤◌, ◌<◌}
+use Prim.Native.Nat.{ℕ, suc, ◌+◌, ◌-◌, ◌*◌, ◌≤◌}
 use native.Mathlib.Omega.{arith}
 use lib.Dec.{ltb, eqb}
-use lib.ListN.{length, get_or, set, take, drop, length-set, length-drop, take-append-drop, drop_of_length-le}
+use lib.ListN.{length, get_or, set, take, drop, length-drop, take-append-drop, drop_of_length-le}
 use lib.Seq.{sets, sets-eq, drop-drop, take_all}
-use borrow.Rule.Slice.PartMut.{same_len_mid}
 use borrow.Author.Tests.{eqb-true, eq-eqb, le-ltb}
 use Rattle.ground.proofs.Tests.{both_left, both_right, settled}
 use Rattle.state.specs.declared.panel.Panel.{Panel}
@@ -88,20 +87,6 @@ back_is : (out after : List ℕ) → back out after ≡ take 3 out ++ after
 back_is out after =
     ap (λ (l : List ℕ). take 3 out ++ (after ++ l)) (drop_of_length-le (drop 3 out) {i = length out - 3} (rw length-drop (omega arith)))
     ∙ ap (λ (l : List ℕ). take 3 out ++ l) (append-nil after)
-
--- the panel's bytes are stored inside it
-module _ (out after : List ℕ) (l : length out ≡ 2097155) (k : length after ≡ length (lent_room out)) where
-  back_long : length (back out after) ≡ 2097155
-  back_long = same_len_mid 3 (length out - 3) out after k ∙ l
-
-  pub in-0 : 0 < length (back out after)
-  in-0 = omega (arith, back_long)
-
-  pub in-1 : (a : ℕ) → 1 < length (set (back out after) 0 a)
-  in-1 a = rw length-set (omega (arith, back_long))
-
-  pub in-2 : (a b : ℕ) → 2 < length (set (set (back out after) 0 a) 1 b)
-  in-2 a b = simp length-set (omega (arith, back_long))
 
 module _ (dual : Bool) (input out error : List ℕ) (h : not (lent out error) ≡ false) {p : Panel} {number : ℕ} {book : List ℕ} (i : p ≡ panel_in dual input) (j : number ≡ word_at input 3)
     (k : book ≡ drop 5 input) {r : Written} {after : List ℕ} (v : wrote_all r after ≡ write_of p book number (lent_room out)) where

@@ -8,11 +8,13 @@ ghost use Rattle.state.specs.Refusals.{number_of};
 ghost use Rattle.write.specs.Writing.{lengths, given_in, write_given_of};
 
 use contents::bytes::word_at;
+use printed::fill::zeroed;
 use printed::input::{byte_in, panel_in, rest_in};
 use printed::screen::print_picture;
-use report::{STDERR_FILENO, STDOUT_FILENO, has_argument, read_whole, report};
+use report::{finish, has_argument, read_whole};
 use state::panel::Panel;
 use state::refusal::{Refusal, Refused};
+use std::io::Print;
 use writer::write::write;
 
 // A refusal whose line stands in the error room's first bytes.
@@ -20,13 +22,6 @@ use writer::write::write;
 struct Told {
     line: usize,
     refusal: Refusal,
-}
-
-// Room for a panel and 1,048,576 pairs. The `ensures` gives only the length.
-fn empty_room() -> [u8; 2097155]
-    ensures { 2097155 ≡ length result }
-{
-    [0; 2097155]
 }
 
 // A refusal's line; there is no frame to print.
@@ -70,27 +65,27 @@ fn write_both(dual: bool, input: &[u8], out: &mut [u8], error: &mut [u8]) -> Res
     }
 }
 
-// To standard output, to standard error, then the report.
-fn give(output: &[u8], line: &[u8], number: u8) {
-    if io::write_all(STDOUT_FILENO, output) && io::write_all(STDERR_FILENO, line) {
-        report(number);
-    }
-}
-
-// One byte past the limit shows that a book is too long.
-fn main(rt: HostRuntime) {
+// The screen written to standard output, or its refusal to standard error: the refusal number. One byte past the limit shows that a book is
+// too long; there is room for a panel and 1,048,576 pairs.
+fn write_screen(rt: HostRuntime) -> std::io::Result<u8> {
     let mut input = [0u8; 32774];
-    let Ok(end) = read_whole(&mut rt.stdin(), &mut input) else {
-        return;
-    };
-    let mut out = empty_room();
+    let end = read_whole(&mut rt.stdin(), &mut input)?;
+    let mut out = zeroed::<2097155>();
     let mut error = [0u8; 196608];
     let dual = has_argument(&rt, 1);
     match write_both(dual, &input[..end], &mut out, &mut error) {
-        Ok(output) => give(&out[..output], &error[..0], 0),
+        Ok(output) => {
+            rt.write_all(&out[..output])?;
+            Ok(0)
+        }
         Err(told) => {
             let line = told.line;
-            give(&out[..0], &error[..line], told.refusal.number())
+            rt.stderr().write_all(&error[..line])?;
+            Ok(told.refusal.number())
         }
     }
+}
+
+fn main(rt: HostRuntime) {
+    finish(write_screen(rt));
 }

@@ -46,10 +46,6 @@ put-pairs-as h x = rw h at x
 pub put_as : {a b : Stream} {k l : ℕ} → k ≡ l → Puts a (code k ∷ []) b → Puts a (code l ∷ []) b
 put_as h x = rw h at x
 
--- data of which the second was computed
-pub put-two-as : {a b : Stream} {m k l n : ℕ} → k ≡ l → Puts a (datum m ∷ datum k ∷ code n ∷ []) b → Puts a (datum m ∷ datum l ∷ code n ∷ []) b
-put-two-as h x = rw h at x
-
 -- a word or an address that was computed
 pub put-word-as : {a b : Stream} {k l n : ℕ} → k ≡ l
     → Puts a (datum (k % 256) ∷ datum (k / 256) ∷ code n ∷ []) b → Puts a (datum (l % 256) ∷ datum (l / 256) ∷ code n ∷ []) b

@@ -23,6 +23,7 @@ fn put_text(stream: &mut Stream, panel: Panel, line: usize, column: usize, codes
     stream.block(text_home(panel) + cell as u16, codes);
 }
 
+// The numbers of operation 2, one by one: the book's operation holds them so.
 // Operation 2, row by row.
 fn put_rows(
     stream: &mut Stream,
@@ -72,7 +73,8 @@ fn put_glyph(stream: &mut Stream, panel: Panel, k: u8, rows: &[u8])
     stream.block(Homes::GLYPHS + 8 * (k - 0x80) as u16, rows);
 }
 
-// The code that sets a combination, characters internal.
+// Beside `u8::from`, which gives the number that an image holds: the controller's codes leave 82H out.
+/// The code that sets a combination, characters internal.
 pub fn combination_code(combination: Combination) -> u8
     ensures { result ≡ combination_code combination }
 {
@@ -119,14 +121,8 @@ pub(crate) fn put_body(stream: &mut Stream, panel: Panel, book: &[u8], start: us
     ensures { Puts stream.old (body_pairs panel (operations_in (operations_from (end - start) panel book.now start end))) stream.new }
 {
     let mut next = start;
-    loop {
-        match read(panel, book, next, end) {
-            Ok(Some(standing)) => {
-                put_operation(stream, panel, book, standing.placed);
-                next = standing.next;
-            }
-            Ok(None) => return,
-            Err(_) => return,
-        }
+    while let Ok(Some(standing)) = read(panel, book, next, end) {
+        put_operation(stream, panel, book, standing.placed);
+        next = standing.next;
     }
 }

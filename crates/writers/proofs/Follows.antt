@@ -1,9 +1,9 @@
 -- A log followed pair by pair: what is left from here comes to the whole, and the list holds the stores so far.
-use Rattle.std.proofs.Common.{◌≡◌, ℕ, zero, suc, ◌+◌, ◌-◌, ◌*◌, ◌/◌, ◌%◌, ◌^◌, ◌<◌, ◌≤◌, Bool, true, false, cond, not, ◌&&◌, ◌||◌, eqb, ltb, leb, List, [], ◌++◌, length, get_or, take, set, sym, refl, ap, ◌∙◌, subst, arith, take_all, get_or-set_same, ltb-true, eq-eqb, eqb-true, le-leb, leb-false, leb-true}
+use Rattle.std.proofs.Common.{◌≡◌, ℕ, zero, suc, ◌+◌, ◌-◌, ◌*◌, ◌/◌, ◌%◌, ◌^◌, ◌<◌, ◌≤◌, Bool, true, false, cond, not, ◌&&◌, ◌||◌, eqb, ltb, leb, List, [], ◌++◌, length, get_or, take, set, sym, refl, ap, ◌∙◌, subst, arith, Option, Some, None, take_all, get_or-set_same, ltb-true, eq-eqb, eqb-true, le-leb, leb-false, leb-true}
 use mathlib.Core.Bool.{false≢true}
 use lib.Seq.{sets}
 use borrow.Author.Tests.{lt-leb}
-use Rattle.ground.proofs.Tests.{both, both_left, both_right, settled}
+use Rattle.ground.proofs.Tests.{both_left, both_right, settled}
 use Rattle.state.specs.State.{valid_panel, valid_registers, none}
 use Rattle.display.specs.Frame.{lent_lengths}
 use Rattle.codes.specs.Command.{is_off, decode_of}
@@ -15,7 +15,7 @@ use Rattle.controller.specs.Run.{pairs_of, Standing, run_from}
 use Rattle.controller.specs.Run as run
 use Rattle.controller.specs.Ready.{Runs}
 use Rattle.controller.proofs.Blocks.{pair_at, write-only}
-use Rattle.controller.proofs.Laws.{Sounds, sounds, sounds-valid, step-sound}
+use Rattle.controller.proofs.Laws.{Sounds, sounds, step-sound}
 use Rattle.controller.proofs.Goings.{Leaves, Going, going, going-ends, going_done}
 use Rattle.controller.proofs.Readied.{runs-lengths}
 use Rattle.controller.proofs.Runs.{pairs-length}
@@ -25,11 +25,12 @@ use Rattle.stores.specs.Stores.{code_stores, stores_of, from_address}
 use Rattle.noting.specs.Stretch as stretch
 use Rattle.noting.specs.Stretch.{store, store_at, stores_in, store_numbers}
 use Rattle.noting.specs.Noted.{room_of, capped, Noting, noting, noted_by, noted_each}
-use Rattle.noting.specs.Said.{Says}
+use Rattle.noting.specs.Notes.{noting_of, Stays}
+use Rattle.noting.specs.Said.{said, Says}
 use Rattle.noting.specs.Laid.{laid, datum_at, Lays}
 use Rattle.noting.proofs.Notes.{notes-none, notes-one, capped-least}
 use Rattle.noting.proofs.Singly.{none_below}
-use Rattle.writers.specs.Types.{Panel, Display, Auto, Off, Write, Read, Bus, Registers, Drawn, Listed, Said}
+use Rattle.writers.specs.Types.{Panel, Display, Auto, Off, Write, Read, Bus, Registers, Drawn, Listed, Said, Notes}
 use Rattle.writers.specs.Listing.{Listing, listing, list_by, list_step, begun_list}
 use Rattle.writers.specs.Listed.{ListedAll, listed_all, unlisted, listed_of, list_of}
 use Rattle.writers.specs.Ready.{Behind, behind, behind_by, ended_of}
@@ -78,22 +79,8 @@ module _ {p : Panel} {rom : List ℕ} {first last : ℕ} {log : List ℕ} {total
   pub memory-long : length m ≡ 65536
   memory-long = g.goes_on.sound.sound.memory
 
-  -- a command that was left
-  pub kept_on : {m' list' : List ℕ} → (m' ≡ m) × (list' ≡ list) → Following p rom first last log total s₀ list₀ r m' list' count i
-  kept_on {m'} {list'} e =
-      subst (λ (x : List ℕ). Following p rom first last log total s₀ list₀ r x list' count i) (sym e.0)
-      (subst (λ (x : List ℕ). Following p rom first last log total s₀ list₀ r m x count i) (sym e.1) g)
-
-  pub list-long : length list ≡ length list₀
+  list-long : length list ≡ length list₀
   list-long = g.holds.long
-
-  pub still-runs : valid_panel p ≡ true → length rom ≡ 1024 → Runs p r m rom
-  still-runs v c =
-      record {
-        panel = v;
-        state = sounds-valid g.goes_on.sound.sound;
-        lent = both (eq-eqb (length m) 65536 memory-long) (eq-eqb (length rom) 1024 c);
-      }
 
   -- all pairs taken
   module _ (h : total ≤ i) (l : length log / 2 ≤ total) where
@@ -362,6 +349,60 @@ module _ {p : Panel} {rom : List ℕ} {first last : ℕ} {log : List ℕ} {total
 pub data-goes : {first last : ℕ} {log : List ℕ} {i left at : ℕ} {m m' : List ℕ} {x y : Noting} {k : ℕ} → Lays first last log i left at m m' x y k
     → (w : Bool) → (eqb (get_or log (2 * i) 0) 0 && w) ≡ true → 0 < left → 0 < k
 data-goes {log = log} {i = i} n w t h = n.blocks.some h (eqb-true (get_or log (2 * i) 0) 0 (both_left (eqb (get_or log (2 * i) 0) 0) w t))
+
+-- on what is lent
+pub record Followed (p : Panel) (rom log : List ℕ) (total : ℕ) (s₀ : Standing Listing) (a : Notes) (r : Registers) (m : List ℕ) (b : Notes) (i : ℕ) : Type 0 where
+  pub following : Following p rom a.stretch.first a.stretch.last log total s₀ a.list.now r m b.list.now b.count i
+  pub stays : Stays a b
+
+pub followed : (p : Panel) (rom log : List ℕ) (total : ℕ) (a : Notes) (r : Registers) (m : List ℕ) → Runs p r m rom → a.count ≡ 0 → length a.list.now < 2 ^ 64
+    → Followed p rom log total (begun_list r m) a r m a 0
+followed p rom log total a r m k z l =
+    record {
+      following = subst (λ (n : ℕ). Following p rom a.stretch.first a.stretch.last log total (begun_list r m) a.list.now r m a.list.now n 0) (sym z)
+          (following p rom a.stretch.first a.stretch.last log total a.list.now r m k l);
+      stays = record { stretch = refl; same_list = refl };
+    }
+
+module _ {p : Panel} {rom log : List ℕ} {total : ℕ} {s₀ : Standing Listing} {a : Notes} {d : Display} {b : Bus} {m : List ℕ} {n : Notes} {i : ℕ}
+    (g : Followed p rom log total s₀ a (record { display = d; bus = b }) m n i) where
+  -- behind a call that is lent what was lent here
+  behind_call : {next : Notes} → Stays n next → Stays a next
+  behind_call s = record { stretch = s.stretch ∙ g.stays.stretch; same_list = s.same_list ∙ g.stays.same_list }
+
+  pub followed-data : 2 * total ≤ length log → {w : Bool} → w ≡ is_write b.auto → (eqb (get_or log (2 * i) 0) 0 && w) ≡ true → {left : ℕ} → i + left ≤ total → {m' : List ℕ} {k : ℕ} {n' : Notes}
+      → Lays n.stretch.first n.stretch.last log i left b.pointer m m' (noting_of n) (noting_of n') k → Stays n n' → {next : Bus} → next ≡ with_pointer b ((b.pointer + k) % 65536)
+      → Followed p rom log total s₀ a (record { display = d; bus = next }) m' n' (i + k)
+  followed-data l e t f y s q =
+      record { following = follows-data g.following l e t f (rw g.stays.stretch at y) q; stays = behind_call s }
+
+  pub followed-said : i < total → 2 * total ≤ length log → {off : Bool} → off ≡ is_off b.auto → {o : Option Bus} {next : Bus} → o ≡ Some next → {m' : List ℕ} {n' : Notes}
+      → Says n.stretch.first n.stretch.last i b m (eqb (get_or log (2 * i) 0) 1 && off) (get_or log (2 * i + 1) 0) (noting_of n) (said b o n'.count) m' n'.list.now → Stays n n'
+      → Followed p rom log total s₀ a (record { display = d; bus = next }) m' n' (i + 1)
+  followed-said h l e f k s =
+      record { following = follows_said g.following h l e (rw f at rw g.stays.stretch at k) refl; stays = behind_call s }
+
+  -- a command that was left
+  pub left-as : {o : Option Bus} → o ≡ None → {still : Bool} {code : ℕ} {m' : List ℕ} {n' : Notes}
+      → Says n.stretch.first n.stretch.last i b m still code (noting_of n) (said b o n'.count) m' n'.list.now → (o ≡ None → noting_of n' ≡ noting_of n) → Stays n n'
+      → Followed p rom log total s₀ a (record { display = d; bus = b }) m' n' i
+  left-as f {still} {code} {m'} {n'} k same s =
+      let left : Says n.stretch.first n.stretch.last i b m still code (noting_of n) (said b None n'.count) m' n'.list.now = rw f at k in
+      record {
+        following = subst (λ (x : List ℕ). Following p rom a.stretch.first a.stretch.last log total s₀ a.list.now (record { display = d; bus = b }) x n'.list.now n'.count i) (sym (left.keeps refl).0)
+            (subst (λ (x : Noting). Following p rom a.stretch.first a.stretch.last log total s₀ a.list.now (record { display = d; bus = b }) m x.list x.count i) (sym (same f)) g.following);
+        stays = behind_call s;
+      }
+
+  pub followed-through : i < total → 2 * total ≤ length log → {r : Registers} {m' : List ℕ} {n' : Notes}
+      → behind (machine r m') (noting_of n')
+      ≡ behind_by p n.stretch.first n.stretch.last i (machine (record { display = d; bus = b }) m) (pair_at log i) (noting_of n) (step_of p rom (machine (record { display = d; bus = b }) m) (pair_at log i))
+      → Stays n n' → Followed p rom log total s₀ a r m' n' (i + 1)
+  followed-through h l f s = record { following = follows-through g.following h l (rw g.stays.stretch at f); stays = behind_call s }
+
+-- the list as it is given back
+pub given-back : {x : Listed} {m k l : List ℕ} {y : ListedAll} → listed_all x m k ≡ y → l ≡ k → listed_all x m l ≡ y
+given-back {x} {m} f e = ap (λ (l : List ℕ). listed_all x m l) e ∙ f
 
 -- the door
 module _ (p : Panel) (r : Registers) (mem rom log : List ℕ) (first last : ℕ) (list : List ℕ) {a b : Bool} (i : a ≡ valid_panel p) (j : b ≡ valid_registers r) where

@@ -1,5 +1,5 @@
 -- Any pair by a whole access, and what it stored.
-use Rattle.std.proofs.Common.{◌≡◌, ℕ, ◌-◌, ◌≤◌, Bool, true, false, cond, ◌&&◌, ◌||◌, eqb, List, get_or, Option, Some, None, Ok, Err, sym, ap, ◌∙◌, subst, arith}
+use Rattle.std.proofs.Common.{◌≡◌, ℕ, ◌-◌, ◌≤◌, Bool, true, false, cond, ◌&&◌, ◌||◌, eqb, List, get_or, Option, Some, None, Ok, Err, sym, ap, ◌∙◌, subst, arith, length, take, get_or-take, length-take-le}
 use Rattle.state.specs.State.{valid_panel}
 use Rattle.state.specs.Combination.{is_attribute}
 use Rattle.state.proofs.Valid.{panelled}
@@ -17,8 +17,7 @@ use Rattle.noting.specs.Stretch.{store, store_at}
 use Rattle.noting.specs.Noted.{Noting, noting, noted_each}
 use Rattle.noting.proofs.Notes.{notes-same}
 use Rattle.writers.specs.Types.{Panel, Registers}
-use Rattle.writers.specs.Ready.{Held, Behind, behind, behind_by}
-use Rattle.writers.proofs.Holding.{stores_by}
+use Rattle.writers.specs.Ready.{Held, stores_by, Behind, behind, behind_by}
 
 -- a pair stores at most eighty bytes
 stores-few : (p : Panel) → valid_panel p ≡ true → (r : Registers) (q : Pair) → stores_of p r q ≤ 80
@@ -79,15 +78,16 @@ module _ {p : Panel} {r : Registers} {mem rom : List ℕ} (k : Runs p r mem rom)
 
     -- accepted: the bytes it stored, those before as they were held
     pub through-accepted : (x : Option ℕ) {next : Registers} {after : List ℕ} → outcome (Ok x) next after ≡ entered_of p r mem rom q → {n : ℕ} → n ≡ stores_asked p r q → {before : List ℕ} → Held mem r.bus.pointer n before
-        → {y : Noting} → y ≡ noted_each first last (stores_by pair r.bus.pointer before after) n (noting count list)
+        → n ≤ length before → {y : Noting} → y ≡ noted_each first last (stores_by pair r.bus.pointer (take n before) after) (length (take n before)) (noting count list)
         → behind (machine next after) y ≡ due (step_of p rom (machine r mem) q)
-    through-accepted x {next} {after} e {n} s {before} h {y} f = (λ j. behind (machine next after) (noted j)) ∙ go x e
+    through-accepted x {next} {after} e {n} s {before} h few {y} f = (λ j. behind (machine next after) (noted j)) ∙ go x e
       where
         noted : y ≡ noted_each first last (store_at pair (machine r mem) (machine next after)) (stores_of p r q) (noting count list)
         noted =
             f
-            ∙ notes-same first last (stores_by pair r.bus.pointer before after) (store_at pair (machine r mem) (machine next after)) n (noting count list)
-            (λ j l t. store pair (from_address r.bus.pointer j) (h.holds j l t) (get_or after (from_address r.bus.pointer j) 0))
+            ∙ (λ j. noted_each first last (stores_by pair r.bus.pointer (take n before) after) (length-take-le n before few j) (noting count list))
+            ∙ notes-same first last (stores_by pair r.bus.pointer (take n before) after) (store_at pair (machine r mem) (machine next after)) n (noting count list)
+            (λ j l t. store pair (from_address r.bus.pointer j) ((get_or-take n before j 0 l ∙ h.holds j l) t) (get_or after (from_address r.bus.pointer j) 0))
             ∙ ap (λ (j : ℕ). noted_each first last (store_at pair (machine r mem) (machine next after)) j (noting count list)) (s ∙ asked)
 
         go : (x : Option ℕ) → outcome (Ok x) next after ≡ entered_of p r mem rom q

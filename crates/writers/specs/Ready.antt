@@ -3,13 +3,17 @@ use Rattle.std.specs.Prelude.{◌≡◌, ℕ, ◌<◌, cond, List, nat_le, slice
 use Rattle.effects.specs.Machine.{Machine}
 use Rattle.controller.specs.Access.{Pair, Step, done, answered, refused}
 use Rattle.stores.specs.Stores.{stores_of, from_address}
-use Rattle.noting.specs.Stretch.{store_at}
+use Rattle.noting.specs.Stretch.{Store, store, store_at}
 use Rattle.noting.specs.Noted.{Noting, noted_each}
 use Rattle.writers.specs.Types.{Panel, Registers, Listed}
 
 -- n bytes from an address on
 pub record Held (mem : List ℕ) (at n : ℕ) (bytes : List ℕ) : Type 0 where
   pub holds : (j : ℕ) → j < n → slice_index bytes j ≡ slice_index mem (from_address at j)
+
+-- the stores of a pair, from the bytes before and the memory after
+abbrev pub stores_by : ℕ → ℕ → List ℕ → List ℕ → ℕ → Store
+stores_by pair at before mem j = store pair (from_address at j) (slice_index before j) (slice_index mem (from_address at j))
 
 -- the controller behind a pair, and the list
 pub record Behind : Type 0 where

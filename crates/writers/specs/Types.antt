@@ -8,4 +8,5 @@ pub use Rattle.state.specs.declared.registers.Bus.{Bus}
 pub use Rattle.state.specs.declared.registers.Registers.{Registers}
 pub use Rattle.usual.specs.Done.{Drawn}
 pub use Rattle.writers.specs.Replied.{Listed, listed}
-pub use Rattle.noting.specs.declared.say.Said.{Said}
+pub use Rattle.noting.specs.declared.note.Notes.{Notes}
+pub use Rattle.noting.specs.Said.{Said}

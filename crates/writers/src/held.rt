@@ -1,12 +1,11 @@
 // The bytes that a pair stores: held before it, noted behind it.
-ghost use Rattle.std.specs.Prelude.{◌≡◌, ◌≤◌, length, slice_index};
-ghost use Rattle.stores.specs.Stores.{from_address};
-ghost use Rattle.noting.specs.Stretch.{store};
-ghost use Rattle.noting.specs.Noted.{noting, noted_each};
-ghost use Rattle.writers.specs.Ready.{Held};
+ghost use Rattle.std.specs.Prelude.{◌≡◌, ◌≤◌, length};
+ghost use Rattle.noting.specs.Noted.{noted_each};
+ghost use Rattle.noting.specs.Notes.{noting_of, Stays};
+ghost use Rattle.writers.specs.Ready.{Held, stores_by};
 
 use ground::stretches::read_round;
-use noting::note::note;
+use noting::note::Notes;
 
 // The bytes from an address on, before a pair stores there.
 pub(crate) fn hold(memory: &[u8], at: u16, n: usize) -> [u8; 80]
@@ -20,25 +19,13 @@ pub(crate) fn hold(memory: &[u8], at: u16, n: usize) -> [u8; 80]
 }
 
 // All that a pair stored, byte after byte.
-pub(crate) fn note_all(
-    list: &mut [usize],
-    count: usize,
-    pair: usize,
-    at: u16,
-    n: usize,
-    before: &[u8],
-    memory: &[u8],
-    first: u16,
-    last: u16,
-) -> usize
-    requires { (length memory.now ≡ 65536) × (n ≤ 80) × (length before.now ≡ 80) }
-    ensures { noting result list.new ≡ noted_each first last (λ j. store pair (from_address at j) (slice_index before.now j) (slice_index memory.now (from_address at j))) n (noting count list.old) }
+pub(crate) fn note_all(notes: &mut Notes, pair: usize, at: u16, before: &[u8], memory: &[u8])
+    requires { (length memory.now ≡ 65536) × (length before.now ≤ 80) }
+    ensures noted { noting_of notes.new ≡ noted_each notes.old.stretch.first notes.old.stretch.last (stores_by pair at before.now memory.now) (length before.now) (noting_of notes.old) }
+    ensures stays { Stays notes.old notes.new }
 {
-    let mut entries = count;
-    for j in 0..n {
+    for (j, was) in before.iter().enumerate() {
         let there = at.wrapping_add(j as u16);
-        let after = memory[there as usize];
-        entries = note(list, entries, pair, there, before[j], after, first, last);
+        notes.note(pair, there, *was, memory[there as usize]);
     }
-    entries
 }

@@ -3,6 +3,7 @@ ghost use Rattle.std.specs.Prelude.{◌≡◌, ◌*◌, ◌/◌, ◌%◌, length
 ghost use Rattle.state.specs.Refusals.{number_of};
 ghost use Rattle.controller.specs.Run.{pairs_of, run_from};
 ghost use Rattle.controller.specs.Ready.{Runs};
+ghost use Rattle.noting.specs.Notes.{Stays};
 ghost use Rattle.writers.specs.Listing.{list_step, begun_list};
 ghost use Rattle.writers.specs.Replied.{listed};
 ghost use Rattle.writers.specs.Listed.{unlisted, listed_all, listed_of, list_of};
@@ -10,9 +11,12 @@ ghost use Rattle.writers.specs.Ready.{ended_of};
 
 use super::pair::through;
 use codes::command::is_off;
+use codes::pair::Kind;
 use effects::effect::{is_read, is_write};
 use noting::block::lay;
+use noting::note::Notes;
 use noting::say::say;
+use noting::stretch::Stretch;
 use state::panel::Panel;
 use state::refusal::{Refusal, Refused};
 use state::registers::{Bus, Display, Registers};
@@ -65,22 +69,21 @@ fn ended(display: Display, bus: Bus, room: usize, count: usize) -> Listed
 // All pairs of a log, on a machine that is known to be valid. As in `controller::run`, each test ends in `continue`; any pair left goes through
 // a whole access.
 fn follow(
+    notes: &mut Notes,
     panel: Panel,
     mut display: Display,
     mut bus: Bus,
     memory: &mut [u8],
     rom: &[u8],
     log: &[u8],
-    first: u16,
-    last: u16,
-    list: &mut [usize],
 ) -> Listed
     requires runs { Runs panel (record { display = display; bus = bus }) memory.old rom.now }
     requires log_len { length log.now % 2 ≡ 0 }
-    ensures { listed_all (listed result) memory.new list.new ≡ listed_of list.old (run_from (list_step panel rom.now first last) 0 (pairs_of log.now) (begun_list (record { display = display; bus = bus }) memory.old)).standing.machine }
+    requires none { notes.old.count ≡ 0 }
+    ensures listed { listed_all (listed result) memory.new notes.new.list.now ≡ listed_of notes.old.list.now (run_from (list_step panel rom.now notes.old.stretch.first notes.old.stretch.last) 0 (pairs_of log.now) (begun_list (record { display = display; bus = bus }) memory.old)).standing.machine }
+    ensures stays { Stays notes.old notes.new }
 {
     let total = log.len() / 2;
-    let mut count: usize = 0;
     let mut i: usize = 0;
     // a `while`, since a block takes many pairs at once
     while i < total {
@@ -89,36 +92,23 @@ fn follow(
         let kind = log[2 * pair];
         let byte = log[2 * pair + 1];
         let auto = bus.auto;
-        if (kind == 0) & is_write(auto) {
-            let laid = lay(
-                memory,
-                list,
-                count,
-                log,
-                pair,
-                total,
-                bus.pointer,
-                first,
-                last,
-            );
-            bus = passed(bus, laid.pairs);
-            count = laid.count;
-            i = pair + laid.pairs;
+        if (kind == Kind::Data as u8) & is_write(auto) {
+            let laid = lay(notes, memory, log, pair, total, bus.pointer);
+            bus = passed(bus, laid);
+            i = pair + laid;
             continue;
         }
         let off = is_off(auto);
-        if (kind == 0) & off {
+        if (kind == Kind::Data as u8) & off {
             bus = datum(bus, byte);
             continue;
         }
-        if (kind == 3) | ((kind == 2) & off) {
+        if (kind == Kind::Status as u8) | ((kind == Kind::Read as u8) & off) {
             continue;
         }
-        let quiet = (kind == 1) & off;
-        let said = say(bus, memory, quiet, byte, pair, list, count, first, last);
-        if said.done {
-            count = said.count;
-            bus = said.bus;
+        let quiet = (kind == Kind::Command as u8) & off;
+        if let Some(next) = say(notes, bus, memory, quiet, byte, pair) {
+            bus = next;
             continue;
         }
         if let Some(next) = draw(display, quiet & (byte < 0xc0), byte) {
@@ -126,26 +116,24 @@ fn follow(
             bus = emptied(bus);
             continue;
         }
-        if (kind == 1) & (byte == 0xb2) {
+        if (kind == Kind::Command as u8) & (byte == 0xb2) {
             bus = freed(bus);
             continue;
         }
-        if (kind == 2) & is_read(auto) {
+        if (kind == Kind::Read as u8) & is_read(auto) {
             bus.pointer = bus.pointer.wrapping_add(1);
             continue;
         }
-        if kind == 4 {
+        if kind == Kind::Tick as u8 {
             display = ticked(display);
             continue;
         }
-        let gone = through(
-            panel, display, bus, memory, rom, kind, byte, pair, list, count, first, last,
-        );
-        display = gone.registers.display;
-        bus = gone.registers.bus;
-        count = gone.count;
+        let registers = Registers { display, bus };
+        let next = through(notes, panel, registers, memory, rom, kind, byte, pair);
+        display = next.display;
+        bus = next.bus;
     }
-    ended(display, bus, list.len() / 4, count)
+    ended(display, bus, notes.list.len() / 4, notes.count)
 }
 
 /// Every store of a log into a stretch of memory, its first and its last address; the stretch goes round where the last is below the first. The
@@ -182,7 +170,13 @@ pub fn list(
             registers,
         );
     }
+    let stretch = Stretch { first, last };
+    let mut notes = Notes {
+        stretch,
+        list,
+        count: 0,
+    };
     let display = registers.display;
     let bus = registers.bus;
-    follow(panel, display, bus, memory, rom, log, first, last, list)
+    follow(&mut notes, panel, display, bus, memory, rom, log)
 }

@@ -3,65 +3,41 @@ ghost use Rattle.std.specs.Prelude.{◌≡◌};
 ghost use Rattle.effects.specs.Machine.{machine};
 ghost use Rattle.controller.specs.Access.{step_of};
 ghost use Rattle.controller.specs.Ready.{Runs};
-ghost use Rattle.noting.specs.Noted.{noting};
+ghost use Rattle.noting.specs.Notes.{noting_of, Stays};
 ghost use Rattle.writers.specs.Ready.{behind, behind_by};
 
 use super::held::{hold, note_all};
+use noting::note::Notes;
 use single::access::accessed;
 use state::panel::Panel;
-use state::registers::{Bus, Display, Registers};
+use state::registers::Registers;
 use stores::stores::stores;
 
-// The registers behind a pair, and the entries needed then: by value, since a local that is lent would stay in memory for the whole loop.
-#[derive(Clone, Copy, Debug, PartialEq, Eq)]
-pub(crate) struct Gone {
-    pub registers: Registers,
-    pub count: usize,
-}
-
-// Any pair by a whole access; what it stored is noted if it is accepted.
+// Any pair by a whole access; what it stored is noted if it is accepted. Registers by value, since a local that is lent would stay in memory
+// for the whole loop.
 pub(crate) fn through(
+    notes: &mut Notes,
     panel: Panel,
-    display: Display,
-    bus: Bus,
+    registers: Registers,
     memory: &mut [u8],
     rom: &[u8],
     kind: u8,
     byte: u8,
     pair: usize,
-    list: &mut [usize],
-    count: usize,
-    first: u16,
-    last: u16,
-) -> Gone
-    requires { Runs panel (record { display = display; bus = bus }) memory.old rom.now }
-    ensures { behind (machine result.registers memory.new) (noting result.count list.new) ≡ behind_by panel first last pair (machine (record { display = display; bus = bus }) memory.old) (record { kind = kind; byte = byte }) (noting count list.old) (step_of panel rom.now (machine (record { display = display; bus = bus }) memory.old) (record { kind = kind; byte = byte })) }
+) -> Registers
+    requires { Runs panel registers memory.old rom.now }
+    ensures behind { behind (machine result memory.new) (noting_of notes.new) ≡ behind_by panel notes.old.stretch.first notes.old.stretch.last pair (machine registers memory.old) (record { kind = kind; byte = byte }) (noting_of notes.old) (step_of panel rom.now (machine registers memory.old) (record { kind = kind; byte = byte })) }
+    ensures stays { Stays notes.old notes.new }
 {
-    let registers = Registers { display, bus };
+    let at = registers.bus.pointer;
     let all = stores(panel, registers, kind, byte);
-    let before = hold(memory, bus.pointer, all);
+    let before = hold(memory, at, all);
     let done = accessed(panel, registers, memory, rom, kind, byte);
     match done.answer {
         Ok(_) => {
-            let count = note_all(
-                list,
-                count,
-                pair,
-                bus.pointer,
-                all,
-                &before,
-                memory,
-                first,
-                last,
-            );
-            Gone {
-                registers: done.registers,
-                count,
-            }
+            note_all(notes, pair, at, &before[..all], memory);
+            done.registers
         }
-        Err(_) => Gone {
-            registers: done.registers,
-            count,
-        },
+        Err(_) => done.registers,
     }
 }

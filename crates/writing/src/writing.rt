@@ -6,7 +6,7 @@ ghost use Rattle.writing.specs.Writing.{writers_end, writers_bytes};
 use image::door::{count_entries, enter, keep, marked};
 use writers::list::list;
 
-// Every store of a log into a stretch of memory, four numbers each: the number. `counts` becomes place, entries.
+/// Every store of a log into a stretch of memory, four numbers each: the number. `counts` becomes place, entries.
 #[tactic(auto, unfolding(crate::specs::Writing::writers_bytes))]
 #[unsafe(no_mangle)]
 pub extern "C" fn t6963c_writers(

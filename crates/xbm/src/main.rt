@@ -9,8 +9,9 @@ use mirror::convert::convert;
 use output::{write_line, write_rows};
 use printed::fill::{character_rom, empty_memory};
 use printed::input::{panel_in, rest_in};
-use report::{has_argument, read_rom, read_whole, report};
+use report::{finish, has_argument, read_rom, read_whole};
 use state::panel::Panel;
+use state::refusal::Refusal;
 use state::registers::Registers;
 use state::reply::number;
 use std::fmt;
@@ -35,23 +36,27 @@ impl fmt::Display for Line<'_> {
     }
 }
 
-// All bytes of a frame, line after line, the closing brace behind the last one.
+// All bytes of a frame, line after line, the closing brace behind the last one. Here and below: where a line can't be written the others
+// are tried all the same.
 fn put_all(rt: HostRuntime, frame: &[u8]) -> Result<()> {
-    for (i, bytes) in frame.chunks(ACROSS).enumerate() {
-        let before = if i == 0 { "" } else { ",\n" };
-        print!(rt; "{before}{}", Line(bytes))?;
+    let mut written = Ok(());
+    let mut left = frame.len();
+    for bytes in frame.chunks(ACROSS) {
+        left = left.saturating_sub(ACROSS);
+        let end = if left == 0 { " };" } else { "," };
+        written = written.and(println!(rt; "{}{end}", Line(bytes)));
     }
-    println!(rt; " }};")
+    written
 }
 
 // A frame in XBM's order, as C source. A valid panel has at most eighty columns of eight dots, and 32 lines.
 fn put_xbm(rt: HostRuntime, panel: Panel, frame: &[u8]) -> Result<()> {
     let across = panel.columns.min(80) * panel.width.min(8);
     let down = 8 * panel.lines.min(32);
-    println!(rt; "#define frame_width {across}")?;
-    println!(rt; "#define frame_height {down}")?;
-    println!(rt; "static unsigned char frame_bits[] = {{")?;
-    put_all(rt, frame)
+    let width = println!(rt; "#define frame_width {across}");
+    let height = println!(rt; "#define frame_height {down}");
+    let name = println!(rt; "static unsigned char frame_bits[] = {{");
+    width.and(height).and(name).and(put_all(rt, frame))
 }
 
 // The frame painted and converted, then put out.
@@ -99,18 +104,15 @@ fn show(rt: HostRuntime, rom: &[u8], input: &[u8]) -> Result<u8> {
         log.len() / 2,
         &mut answers,
     );
-    if (ran.number == 1) | (ran.number == 8) {
-        put_line(&rt, ran)?;
-        return Ok(ran.number);
+    if let Ok(Refusal::Invalid | Refusal::OddLength) = Refusal::try_from(ran.number) {
+        return put_line(&rt, ran).and(Ok(ran.number));
     }
-    // where standard error can't be written the frame is put out all the same
     let told = tell(rt, ran);
-    put_frame(rt, panel, ran.registers, &memory, rom)?;
-    told?;
-    Ok(ran.number)
+    let put = put_frame(rt, panel, ran.registers, &memory, rom);
+    told.and(put).and(Ok(ran.number))
 }
 
-// Its own in each program: the room's length and what is shown differ, and a closure would be no plainer.
+// Its own in each program: the room's length and what is shown differ, and no public function has the `requires` that a closure needs.
 // The log run and its frame shown: the run's refusal number.
 fn show_log(rt: HostRuntime) -> Result<u8> {
     let mut rom = character_rom();
@@ -125,9 +127,10 @@ fn show_log(rt: HostRuntime) -> Result<u8> {
 fn show_back(rt: HostRuntime) -> Result<u8> {
     // what was not read is 0, as a missing byte counts
     let mut head = [0u8; 3];
-    read_whole(&mut rt.stdin(), &mut head)?;
+    let short = read_whole(&mut rt.stdin(), &mut head);
     let mut room = [0u8; 20481];
     let end = read_whole(&mut rt.stdin(), &mut room)?;
+    short?;
     let frame = &mut room[..end];
     let panel = panel_in(&head, head[1] > 16);
     let converted = convert(panel, frame);
@@ -152,7 +155,5 @@ fn main(rt: HostRuntime) {
     } else {
         show_log(rt)
     };
-    if let Ok(number) = shown {
-        report(number);
-    }
+    finish(shown);
 }

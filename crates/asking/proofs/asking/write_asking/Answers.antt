@@ -23,8 +23,5 @@ pub returns-in_err-write : goal.returns-in_err-write
 returns-in_err-write c = let a = c.args in
     absurd (plain-written a.panel a.book.now a.number (counted-stream a.panel a.book.now a.number c.in_ok-plain.ensures) a.room.now c.if-room-plain.false _ c.in_err-write.ensures.value)
 
-pub overflow_mul-result-2 : goal.overflow_mul-result-2
-overflow_mul-result-2 c = let a = c.args in omega (arith, (counted-stream a.panel a.book.now a.number c.in_ok-plain.ensures).few)
-
 pub returns-clause-value : goal.returns-clause-value
 returns-clause-value c = let a = c.args in asking-0 a.panel a.book.now a.number (counted-stream a.panel a.book.now a.number c.in_ok-plain.ensures) a.room.now c.if-room-plain.false c.in_ok-write.ensures.value c.spread.ensures

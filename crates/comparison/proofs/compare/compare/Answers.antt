@@ -1,7 +1,13 @@
--- `compare` meets its contract: the tests at the door, in order, the copy, then both logs.
-use Rattle.comparison.proofs.Verdicts.{compares-valid, compares-lent}
+-- `compare` meets its contract: past the tests at the door both machines paint, and what differs in them is few.
+use Rattle.comparison.proofs.Verdicts.{both-paint, few}
 use Rattle.comparison.proofs.compare.compare.Goals as goal
 
-pub run_both-requires : goal.run_both-requires
-run_both-requires c = let a = c.args in
-    (compares-valid a.panel a.one.now a.two.now a.rom.now a.log_one.now a.log_two.now a.list.now c.valid-valid.ensures c.if-not-valid.false, compares-lent a.panel a.one.now a.two.now a.rom.now a.log_one.now a.log_two.now a.list.now c.valid-valid.ensures c.if-not-valid.false c.if-not-fits.false, c.copy_from_slice.ensures.after)
+pub dots-apart-requires : goal.dots-apart-requires
+dots-apart-requires c = let a = c.args in
+    both-paint a.panel a.one.now a.two.now a.rom.now a.log_one.now a.log_two.now a.list.now c.valid-valid.ensures c.if-not-valid.false c.if-not-fits.false c.copy_from_slice.ensures.after c.in_ok-first.ensures c.in_ok-second.ensures
+
+pub told-requires : goal.told-requires
+told-requires c = let a = c.args in
+    few c.in_ok-first.first c.in_ok-second.second a.list.now c.register_values-b.result
+    (both-paint a.panel a.one.now a.two.now a.rom.now a.log_one.now a.log_two.now a.list.now c.valid-valid.ensures c.if-not-valid.false c.if-not-fits.false c.copy_from_slice.ensures.after c.in_ok-first.ensures c.in_ok-second.ensures)
+    c.register_values-a.ensures c.enter.ensures.answer

@@ -4,24 +4,12 @@ use Rattle.state.proofs.Sizes.{lines-few}
 use Rattle.comparison.proofs.Aparts.{adding, row-few, adds_on, added-all}
 use Rattle.comparison.proofs.dots.dots.Goals as goal
 
-pub overflow_mul-rows : goal.overflow_mul-rows
-overflow_mul-rows c = omega (arith, lines-few c.args.panel c.requires.panel)
-
 pub loop-row-init : goal.loop-row-init
 loop-row-init c = (adding _ _ _ _ _ _, omega arith)
-
-pub one_row-count-requires : goal.one_row-count-requires
-one_row-count-requires c = c.requires
 
 pub overflow_add-count : goal.overflow_add-count
 overflow_add-count c = let a = c.args in
     omega (arith, row-few a.panel a.first a.one.now a.second a.two.now a.rom.now c.requires.panel c.loop-row.invariant.0 c.one_row-count.ensures, c.loop-row.invariant.0.few, c.loop-row-test.true, lines-few a.panel c.requires.panel)
-
-pub overflow_step-row : goal.overflow_step-row
-overflow_step-row c = omega (arith, c.loop-row-test.true, lines-few c.args.panel c.requires.panel)
-
-pub loop-row-smaller : goal.loop-row-smaller
-loop-row-smaller c = omega (arith, c.loop-row-test.true)
 
 pub loop-row-preserved : goal.loop-row-preserved
 loop-row-preserved c = let a = c.args in

@@ -5,13 +5,8 @@ use lib.Dec.{eqb}
 use Rattle.contents.specs.Contents.{Contents, contents_of}
 use Rattle.contents.specs.Spans.{spans_of}
 use Rattle.contents.specs.Replies.{Opens}
-use Rattle.contents.proofs.Opening.{open-known, open-form, open-sound, open-shut}
+use Rattle.contents.proofs.Opening.{open-form, open-sound, open-shut}
 use Rattle.contents.proofs.open.open.Goals as goal
-
-pub entries-requires : goal.entries-requires
-entries-requires c = let s = c.args in
-    let o = open-known s.book.now c.byte_at-two.ensures c.count_at.ensures c.byte_at-n.ensures c.first_body.ensures c.if-not-opens.false in
-    (o.contents, o.short, o.few)
 
 pub returns-then-not-opens : goal.returns-then-not-opens
 returns-then-not-opens c = let s = c.args in

@@ -5,7 +5,7 @@ use mathlib.Core.Path.{refl, ◌∙◌}
 use Rattle.ground.proofs.Tests.{both_left}
 use Rattle.controller.specs.Ready.{standing}
 use Rattle.controller.proofs.Blocks.{block-moves, nearer}
-use Rattle.controller.proofs.Pairwise.{running, running-ends, going-runs, going_on, going-stops, turned-here, going-block, going-kept, going-held, going-pushes, going-tells, going-draws, going-leaves, going-asks, going-ticks}
+use Rattle.controller.proofs.Pairwise.{running, running-ends, going-runs, going_on, going-stops, turned-here, unlisted, going-block, going-kept, going-held, going-pushes, going-tells, going-draws, going-leaves, going-asks, going-ticks}
 use Rattle.controller.proofs.Laws.{sounds}
 use Rattle.controller.proofs.Readied.{runs-lengths}
 use Rattle.controller.proofs.run.pairs.Goals as goal
@@ -65,26 +65,32 @@ loop-i-preserved-then-kind-byte c = going-leaves (going-kept c.loop-i.invariant 
 pub loop-i-preserved-in-Some-ask : goal.loop-i-preserved-in-Some-ask
 loop-i-preserved-in-Some-ask c = going-asks (going-kept c.loop-i.invariant (c.tell-told.ensures.keeps c.if-told.false)) c.loop-i-test.true c.requires.total_in_bounds c.ask.ensures c.in-Some-ask.is
 
-pub overflow_add-i-then-kind-eq4 : goal.overflow_add-i-then-kind-eq4
-overflow_add-i-then-kind-eq4 c = omega (arith, c.loop-i-test.true, c.requires.total_in_bounds, c.well_formed)
+pub overflow_add-i-then-kind : goal.overflow_add-i-then-kind
+overflow_add-i-then-kind c = omega (arith, c.loop-i-test.true, c.requires.total_in_bounds, c.well_formed)
 
-pub loop-i-smaller-then-kind-eq4 : goal.loop-i-smaller-then-kind-eq4
-loop-i-smaller-then-kind-eq4 c = nearer c.loop-i-test.true
+pub loop-i-smaller-then-kind : goal.loop-i-smaller-then-kind
+loop-i-smaller-then-kind c = nearer c.loop-i-test.true
 
-pub loop-i-preserved-then-kind-eq4 : goal.loop-i-preserved-then-kind-eq4
-loop-i-preserved-then-kind-eq4 c = going-ticks (going-held (going-kept c.loop-i.invariant (c.tell-told.ensures.keeps c.if-told.false)) c.ask.ensures c.in_default-ask.is) c.loop-i-test.true c.requires.total_in_bounds c.if-kind-eq4.true c.ticked-display.ensures
+pub loop-i-preserved-then-kind : goal.loop-i-preserved-then-kind
+loop-i-preserved-then-kind c = going-ticks (going-held (going-kept c.loop-i.invariant (c.tell-told.ensures.keeps c.if-told.false)) c.ask.ensures c.in_default-ask.is) c.loop-i-test.true c.requires.total_in_bounds c.if-kind.true c.ticked-display.ensures
 
 pub returns-then-number-ne0 : goal.returns-then-number-ne0
 returns-then-number-ne0 c = let g = going-held (going-kept c.loop-i.invariant (c.tell-told.ensures.keeps c.if-told.false)) c.ask.ensures c.in_default-ask.is in
     let k = going-runs g _ _ refl c.requires.runs.panel (runs-lengths c.requires.runs).1 in
-    let e = c.turn-turned.ensures ∙ turned-here g c.loop-i-test.true c.requires.total_in_bounds k in
-    going-stops g c.loop-i-test.true c.requires.total_in_bounds e c.note-noted.ensures c.if-number-ne0.true c.ended.ensures
+    let e = c.in-Err.ensures ∙ turned-here g c.loop-i-test.true c.requires.total_in_bounds k in
+    going-stops g c.loop-i-test.true c.requires.total_in_bounds e c.number.ensures c.note-noted.ensures c.if-number-ne0.true c.ended.ensures
+
+pub loop-i-preserved-in-Ok : goal.loop-i-preserved-in-Ok
+loop-i-preserved-in-Ok c = let g = going-held (going-kept c.loop-i.invariant (c.tell-told.ensures.keeps c.if-told.false)) c.ask.ensures c.in_default-ask.is in
+    let k = going-runs g _ _ refl c.requires.runs.panel (runs-lengths c.requires.runs).1 in
+    let e = c.in-Ok.ensures ∙ turned-here g c.loop-i-test.true c.requires.total_in_bounds k in
+    going_on g c.loop-i-test.true c.requires.total_in_bounds {x = record { listed = c.loop-i.listed; number = 0 }} e refl (unlisted c.args.skipping c.loop-i.i c.loop-i.listed c.loop-i.skips) refl
 
 pub loop-i-preserved : goal.loop-i-preserved
 loop-i-preserved c = let g = going-held (going-kept c.loop-i.invariant (c.tell-told.ensures.keeps c.if-told.false)) c.ask.ensures c.in_default-ask.is in
     let k = going-runs g _ _ refl c.requires.runs.panel (runs-lengths c.requires.runs).1 in
-    let e = c.turn-turned.ensures ∙ turned-here g c.loop-i-test.true c.requires.total_in_bounds k in
-    going_on g c.loop-i-test.true c.requires.total_in_bounds e c.note-noted.ensures c.if-number-ne0.false
+    let e = c.in-Err.ensures ∙ turned-here g c.loop-i-test.true c.requires.total_in_bounds k in
+    going_on g c.loop-i-test.true c.requires.total_in_bounds e c.number.ensures c.note-noted.ensures c.if-number-ne0.false
 
 pub returns : goal.returns
 returns c = running-ends c.loop-i.invariant c.loop-i-test.false c.ended-2.ensures

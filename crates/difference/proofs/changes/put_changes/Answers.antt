@@ -4,9 +4,6 @@ use Rattle.difference.proofs.Comparing.{differs, differs-room, differs-other, di
 use Rattle.difference.proofs.changes.put_changes.Goals as goal
 use Rattle.difference.proofs.changes.put_changes.Goals.{then-old-i, else-old-i}
 
-pub loop-i-init : goal.loop-i-init
-loop-i-init c = differs c.args.stream.now c.args.home c.args.old.now c.args.new.now
-
 pub put_change-requires : goal.put_change-requires
 put_change-requires c = differs-room c.requires c.loop-i.invariant (omega arith) c.if-old-i.true
 

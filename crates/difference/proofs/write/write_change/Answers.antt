@@ -16,8 +16,5 @@ returns-in_err-ask-2-clause-value c = let a = c.args in
     let p = err_from_is_err_and c.from_residual-in_err-ask-2.result c.from_residual-in_err-ask-2.ensures.1 in
     rw (p.1, p.2) (change-b a.panel a.book.now a.a a.b a.room.now c.valid-valid.ensures c.if-not-valid.false c.in_ok-ask.ensures.value _ c.in_err-ask-2.ensures.value)
 
-pub write_screens-requires : goal.write_screens-requires
-write_screens-requires c = let a = c.args in change-valid a.panel a.book.now a.a a.b a.room.now c.valid-valid.ensures c.if-not-valid.false
-
 pub returns-clause-value : goal.returns-clause-value
 returns-clause-value c = let a = c.args in change-both a.panel a.book.now a.a a.b a.room.now c.valid-valid.ensures c.if-not-valid.false c.in_ok-ask.ensures.value c.in_ok-ask-2.ensures.value c.write_screens.ensures.value

@@ -1,22 +1,11 @@
 -- `paint_one` meets its contract: the tests at the door, then the row.
 use Rattle.std.proofs.lemmas.Result.{err_from_is_err_and}
-use native.Mathlib.Omega.{arith}
 use lib.ListN.{get_or-replicate}
 use Rattle.display.proofs.Dots.{one-row}
 use Rattle.display.proofs.Flagged.{all-flagged, ones}
-use mathlib.Core.Path.{sym, ◌∙◌}
-use Rattle.ground.proofs.Tests.{both_left, both_right}
 use Rattle.display.proofs.Doors.{let-in}
-use Rattle.display.proofs.OneRows.{one-0, one-no, one-drawable, one-rom, one_size, one-stretch}
+use Rattle.display.proofs.OneRows.{one-0, one-no}
 use Rattle.display.proofs.frame.paint_one.Goals as goal
-
-pub paint_some-requires : goal.paint_some-requires
-paint_some-requires c = let a = c.args in
-    let i = c.valid.ensures in
-    let j = c.valid-2.ensures in
-    let m = c.row_size-bytes.ensures in
-    let o = let-in _ _ c.in_ok-admit.ensures in
-    record { valid = (sym i ∙ both_left _ _ o.0, sym j ∙ both_right c.valid.result _ o.0); lent = ((one-drawable a.panel a.display a.mem.now a.rom.now a.at a.out.now i j o.0 m o.1).memory, one-rom a.panel a.display a.mem.now a.rom.now a.at a.out.now i j o.0 m o.1); bytes_value = (one_size a.panel a.display a.mem.now a.rom.now a.at a.out.now i j o.0 m, one-stretch a.panel a.display a.mem.now a.rom.now a.at a.out.now i j o.0 m o.1, omega (arith, c.well_formed)) }
 
 pub returns-clause-answer : goal.returns-clause-answer
 returns-clause-answer c = let a = c.args in

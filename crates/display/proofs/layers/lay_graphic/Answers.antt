@@ -3,8 +3,8 @@ use Rattle.display.proofs.Passes.{over-text, text-alone}
 use Rattle.display.proofs.layers.lay_graphic.Goals as goal
 
 pub returns-then-has_dots : goal.returns-then-has_dots
-returns-then-has_dots c = let a = c.args in
-    over-text a.panel a.display a.mem.now a.row a.column a.cells.now c.has_dots.ensures c.if-has_dots.true c.address-at.ensures c.requires c.mix_round.ensures
+returns-then-has_dots c = let s = c.args.scene.now in
+    over-text s.panel s.display s.mem.now _ _ _ c.has_dots.ensures c.if-has_dots.true c.address-at.ensures s.memory c.mix_round.ensures
 
 pub returns-else-has_dots : goal.returns-else-has_dots
 returns-else-has_dots c = λ rom h. text-alone _ _ _ rom _ _ c.has_dots.ensures c.if-has_dots.false h

@@ -5,29 +5,8 @@ use lib.ListN.{length}
 use Rattle.ground.proofs.Tests.{both_left, both_right}
 use Rattle.display.proofs.Doors.{let-in}
 use Rattle.display.proofs.Fonts.{is-font, text-by-font, shown-by-font}
-use Rattle.display.proofs.Asked.{asked-0, asked-no, asked-room, asked-rom, asked-drawable}
+use Rattle.display.proofs.Asked.{asked-0, asked-no, asked-drawable}
 use Rattle.display.proofs.seen.row_layers.Goals as goal
-
-pub font-glyphs-requires : goal.font-glyphs-requires
-font-glyphs-requires c = let a = c.args in
-    let i = c.valid.ensures in
-    let j = c.valid-2.ensures in
-    let o = let-in _ _ c.in_ok-admit.ensures in
-    let d = asked-drawable a.panel a.display a.mem.now a.rom.now a.row a.column a.text.now a.graphic.now a.shown.now i j o.0 o.1 in
-    (d.memory, asked-rom a.panel a.display a.mem.now a.rom.now a.row a.column a.text.now a.graphic.now a.shown.now i j o.0 o.1, d.offset)
-
-pub tables-shades-requires : goal.tables-shades-requires
-tables-shades-requires c = let a = c.args in
-    let i = c.valid.ensures in
-    let j = c.valid-2.ensures in
-    let o = let-in _ _ c.in_ok-admit.ensures in
-    (asked-drawable a.panel a.display a.mem.now a.rom.now a.row a.column a.text.now a.graphic.now a.shown.now i j o.0 o.1).width
-
-pub slice_bounds-scene-end : goal.slice_bounds-scene-end
-slice_bounds-scene-end c = c.font-glyphs.ensures.value_2
-
-pub slice_bounds-scene-end-2 : goal.slice_bounds-scene-end-2
-slice_bounds-scene-end-2 c = c.tables-shades.ensures.value
 
 pub invariant_of-scene : goal.invariant_of-scene
 invariant_of-scene c = let a = c.args in
@@ -36,11 +15,6 @@ invariant_of-scene c = let a = c.args in
     let o = let-in _ _ c.in_ok-admit.ensures in
     let d = asked-drawable a.panel a.display a.mem.now a.rom.now a.row a.column a.text.now a.graphic.now a.shown.now i j o.0 o.1 in
     record { valid_panel = sym i ∙ both_left _ _ o.0; valid_display = sym j ∙ both_right c.valid.result _ o.0; memory = d.memory; bytes = λ k. (c.type_inv.mem k).fits; glyphs = is-font a.display a.mem.now a.rom.now c.font-glyphs.ensures.value; shaded = c.tables-shades.ensures.shaded.made }
-
-pub lay-requires : goal.lay-requires
-lay-requires c = let a = c.args in
-    let o = let-in _ _ c.in_ok-admit.ensures in
-    record { text_in_bounds = asked-room a.panel a.display a.mem.now a.rom.now a.row a.column a.text.now a.graphic.now a.shown.now c.valid.ensures c.valid-2.ensures o.0 o.1 }
 
 pub returns-clause-answer : goal.returns-clause-answer
 returns-clause-answer c = let a = c.args in

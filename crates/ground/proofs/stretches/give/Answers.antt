@@ -3,4 +3,4 @@ use Rattle.ground.proofs.Passes.{given-cut}
 use Rattle.ground.proofs.stretches.give.Goals as goal
 
 pub returns : goal.returns
-returns c = given-cut _ _ c.lesser-both.ensures c.copy_from_slice.ensures.after
+returns c = given-cut _ _ c.min-both.ensures c.copy_from_slice.ensures.after

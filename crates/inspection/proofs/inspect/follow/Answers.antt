@@ -1,7 +1,8 @@
 -- `follow` meets its contract: what is left from here always comes to the whole.
-use Rattle.std.proofs.Common.{◌≡◌, get_or, rules, arith}
+use Rattle.std.proofs.Common.{◌≡◌, ◌/◌, ◌<◌, length, get_or, rules, ap, arith}
+use Rattle.controller.specs.Access.{Pair}
 use Rattle.controller.proofs.Readied.{runs-lengths}
-use Rattle.inspection.proofs.Watches.{watching, watching-names, watching-uneven, watching-stops, watching-acts, watching-reads}
+use Rattle.inspection.proofs.Watches.{pair-is, watching, watching-names, watching-uneven, watching-stops, watching-acts, watching-reads}
 use Rattle.inspection.proofs.inspect.follow.Goals as goal
 use Rattle.inspection.proofs.inspect.follow.Goals.{in-Some, in_default}
 
@@ -10,20 +11,25 @@ loop-i-init c = watching c.args.panel c.args.rom.now c.args.recorded.now c.args.
 
 pub returns-in-Err : goal.returns-in-Err
 returns-in-Err c =
-    watching-stops c.loop-i.invariant c.requires.runs.panel (runs-lengths c.requires.runs).1 c.loop-i-test.true (omega (arith, c.requires.log_len)) c.in-Err.refusal c.in-Err.ensures.step c.in-Err.ensures.err (omega arith)
+    let here : c.loop-i.i < length c.args.log.now / 2 = omega (arith, c.loop-i-test.true, c.as_chunks.ensures.front_len) in
+    let e = pair-is c.args.log.now c.loop-i.i here c.as_chunks.ensures.front in
+    watching-stops c.loop-i.invariant c.requires.runs.panel (runs-lengths c.requires.runs).1 here (omega (arith, c.requires.log_len)) c.in-Err.refusal (rw e at c.in-Err.ensures.step) c.in-Err.ensures.err (omega arith)
 
 pub loop-i-preserved : goal.loop-i-preserved
 loop-i-preserved c =
+    let here : c.loop-i.i < length c.args.log.now / 2 = omega (arith, c.loop-i-test.true, c.as_chunks.ensures.front_len) in
+    let e = pair-is c.args.log.now c.loop-i.i here c.as_chunks.ensures.front in
+    let kind = ap (λ (q : Pair). q.kind) e in
     let at : c.unwrap_or-answer.result ≡ get_or c.args.recorded.now c.loop-i.given 0 = search rules in
     elim c.match-own.branch [
       | in-Some w ↦ rw (w.seen-is, w.given-is)
-          (watching-reads c.loop-i.invariant c.requires.runs.panel (runs-lengths c.requires.runs).1 c.loop-i-test.true (omega (arith, c.requires.log_len)) w.in-Some.byte (rw w.in-Some.is at c.in-Ok.ensures.step) at c.look.ensures w.compare.ensures)
+          (watching-reads c.loop-i.invariant c.requires.runs.panel (runs-lengths c.requires.runs).1 here (omega (arith, c.requires.log_len)) w.in-Some.byte (rw e at rw w.in-Some.is at c.in-Ok.ensures.step) at (rw kind at c.look.ensures) w.compare.ensures)
       | in_default w ↦ rw (w.seen-is, w.given-is)
-          (watching-acts c.loop-i.invariant c.requires.runs.panel (runs-lengths c.requires.runs).1 c.loop-i-test.true (omega (arith, c.requires.log_len)) (rw w.in_default.is at c.in-Ok.ensures.step) at c.look.ensures)
+          (watching-acts c.loop-i.invariant c.requires.runs.panel (runs-lengths c.requires.runs).1 here (omega (arith, c.requires.log_len)) (rw e at rw w.in_default.is at c.in-Ok.ensures.step) at (rw kind at c.look.ensures))
     ]
 
 pub returns-then-recorded-given : goal.returns-then-recorded-given
-returns-then-recorded-given c = watching-names c.loop-i.invariant c.loop-i-test.false (omega arith) c.if-recorded-given.true
+returns-then-recorded-given c = watching-names c.loop-i.invariant (omega (arith, c.loop-i-test.false, c.as_chunks.ensures.front_len)) (omega arith) c.if-recorded-given.true
 
 pub returns : goal.returns
-returns c = let e = watching-uneven c.loop-i.invariant c.loop-i-test.false (omega arith) c.if-recorded-given.false in search (rules, e)
+returns c = let e = watching-uneven c.loop-i.invariant (omega (arith, c.loop-i-test.false, c.as_chunks.ensures.front_len)) (omega arith) c.if-recorded-given.false in search (rules, e)

@@ -5,4 +5,4 @@ use Rattle.layout.proofs.Sums.{BodiesPut}
 use Rattle.layout.proofs.lay.put_bodies.Given as goal
 
 abbrev pub invariant-loop-span : goal.invariant-loop-span
-invariant-loop-span l = BodiesPut l.two (bodies l.spans) l.book l.initial.out l.out l.at (bodies (drop l.span-index l.spans))
+invariant-loop-span l = BodiesPut (bodies l.spans) l.book l.fn.output l.output (bodies (drop l.span-index l.spans))

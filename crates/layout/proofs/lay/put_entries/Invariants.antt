@@ -5,4 +5,4 @@ use Rattle.layout.proofs.Sums.{EntriesPut}
 use Rattle.layout.proofs.lay.put_entries.Given as goal
 
 abbrev pub invariant-loop-span : goal.invariant-loop-span
-invariant-loop-span l = EntriesPut l.two (bodies l.spans) l.initial.out l.out l.at l.start (bodies (drop l.span-index l.spans))
+invariant-loop-span l = EntriesPut l.two (bodies l.spans) l.fn.output l.output l.start (bodies (drop l.span-index l.spans))

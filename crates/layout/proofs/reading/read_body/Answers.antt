@@ -1,28 +1,33 @@
 -- `read_body` meets its contract: what is left of the body is read as the whole.
-use mathlib.Core.Path.{refl, ap, sym, ◌∙◌}
-use Rattle.layout.specs.BodyRead.{reads_one}
-use Rattle.layout.proofs.Uses.{reading-starts, reading-found, reading-on, reading-ends, reading-faulty, uses-read}
+use mathlib.Core.Path.{refl, ap, ◌∙◌}
 use native.Mathlib.Omega.{arith}
+use Rattle.std.specs.Prelude.{Ok}
+use Rattle.std.proofs.lemmas.Result.{err_from_is_err_and}
+use Rattle.book.specs.Replies.{found}
+use Rattle.book.proofs.GivenPlace.{given-ok, given-err}
+use Rattle.layout.specs.BodyRead.{reads_one}
+use Rattle.layout.proofs.Uses.{reading-found, reading-on, reading-ends, reading-faulty, uses-read}
 use Rattle.layout.proofs.reading.read_body.Goals as goal
-
-pub loop-standing-init : goal.loop-standing-init
-loop-standing-init c = let s = c.args in
-    reading-starts s.panel s.book.now s.start s.end
 
 pub loop-standing-smaller : goal.loop-standing-smaller
 loop-standing-smaller c = let s = c.args in
-    let k = reading-found s.panel s.book.now s.start s.end c.loop-standing.invariant refl (sym (rw c.in-Ok-Some.field-0-is at c.in-Ok-Some.ensures.value)) in
+    let e = ap found (given-ok c.loop-standing.at _ c.map_err.ensures.cases (c.in_ok-standing.was ∙ ap (λ x. Ok x) c.in-Some.is)) in
+    let k = reading-found s.panel s.book.now s.start s.end c.loop-standing.invariant c.read.ensures.value e in
     omega (arith, k.on, k.to_end)
 
 pub loop-standing-preserved : goal.loop-standing-preserved
 loop-standing-preserved c = let s = c.args in
-    reading-on s.panel s.book.now s.start s.end c.loop-standing.invariant refl (sym (rw c.in-Ok-Some.field-0-is at c.in-Ok-Some.ensures.value)) c.is_and-uses.ensures
+    let e = ap found (given-ok c.loop-standing.at _ c.map_err.ensures.cases (c.in_ok-standing.was ∙ ap (λ x. Ok x) c.in-Some.is)) in
+    reading-on s.panel s.book.now s.start s.end c.loop-standing.invariant c.read.ensures.value e c.is_and-uses.ensures
 
-pub returns-in-Ok-None : goal.returns-in-Ok-None
-returns-in-Ok-None c = let s = c.args in
+pub returns : goal.returns
+returns c = let s = c.args in
+    let e = ap found (given-ok c.loop-standing.at _ c.map_err.ensures.cases (c.in_ok-standing.was ∙ ap (λ x. Ok x) c.in_default.is)) in
     uses-read c.loop-standing.uses
-    ∙ ap reads_one (reading-ends s.panel s.book.now s.start s.end c.loop-standing.invariant refl (sym (rw c.in-Ok-None.field-0-is at c.in-Ok-None.ensures.value)) refl)
+    ∙ ap reads_one (reading-ends s.panel s.book.now s.start s.end c.loop-standing.invariant c.read.ensures.value e refl)
 
-pub returns-in-Err : goal.returns-in-Err
-returns-in-Err c = let s = c.args in
-    rw c.in-Err.ensures.refusal (ap reads_one (reading-faulty s.panel s.book.now s.start s.end c.loop-standing.invariant refl (sym c.in-Err.ensures.value)))
+pub returns-in_err-standing : goal.returns-in_err-standing
+returns-in_err-standing c = let s = c.args in
+    let p = err_from_is_err_and c.from_residual.result c.from_residual.ensures.1 in
+    let k = given-err c.loop-standing.at _ c.map_err.ensures.cases c.in_err-standing.was c.read.ensures.refusal in
+    rw (p.1, p.2, k.1) (ap reads_one (reading-faulty s.panel s.book.now s.start s.end c.loop-standing.invariant c.read.ensures.value (ap found k.0)))

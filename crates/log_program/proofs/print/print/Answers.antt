@@ -1,14 +1,13 @@
 -- `print` meets its contract: on fresh rooms the run of the log, and its text.
 use mathlib.Core.Path.{sym, ◌∙◌}
-use Prim.Native.Nat.{ℕ}
-use lib.ListN.{length-replicate}
+use Rattle.printed.proofs.Prints.{zeros-length}
 use Rattle.log_program.proofs.Prints.{ready, print-all, print-none}
 use Rattle.log_program.proofs.print.print.Goals as goal
 
 pub put_ran-count-requires : goal.put_ran-count-requires
 put_ran-count-requires c = let s = c.args in
     let k = c.run_log-ran in
-    ready s.input.now c.panel_in-panel.ensures k.ensures (record { memory = k.auto.memory ∙ sym c.empty_memory-memory.ensures.value_2; characters = sym c.character_rom-rom.ensures.value_2; answered = k.auto.answers ∙ sym c.zeroed-answers.ensures.size; framed = length-replicate {0} {A = ℕ} 20480 0; roomy = c.if-out-eq196608.true })
+    ready s.input.now c.panel_in-panel.ensures k.ensures (record { memory = k.auto.memory ∙ sym c.empty_memory-memory.ensures.value_2; characters = sym c.character_rom-rom.ensures.value_2; answered = k.auto.answers ∙ sym c.zeroed-answers.ensures.size; framed = zeros-length 20480; roomy = c.if-out-eq196608.true })
 
 pub returns-then-out-eq196608 : goal.returns-then-out-eq196608
 returns-then-out-eq196608 c = let s = c.args in

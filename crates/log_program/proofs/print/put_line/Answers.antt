@@ -1,13 +1,10 @@
 -- `put_line` meets its contract: the line in the room's first bytes.
-use mathlib.Core.Path.{refl, sym}
+use mathlib.Core.Path.{refl}
 use native.Mathlib.Omega.{arith}
 use lib.Seq.{length-take-le}
 use Rattle.printed.proofs.Pieces.{line-within}
 use Rattle.log_program.proofs.Prints.{line-put}
 use Rattle.log_program.proofs.print.put_line.Goals as goal
-
-pub slice_bounds-print_line-end-2 : goal.slice_bounds-print_line-end-2
-slice_bounds-print_line-end-2 c = sym (length-take-le 112 c.args.out.now c.requires)
 
 pub returns : goal.returns
 returns c = let k = c.print_line.auto.out in

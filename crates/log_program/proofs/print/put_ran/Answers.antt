@@ -1,38 +1,41 @@
 -- `put_ran` meets its contract: the first line, and where no refusal bars them the answers and the frame.
-use mathlib.Core.Path.{sym, ◌∙◌}
+use Prim.Native.Nat.{ℕ}
 use native.Mathlib.Omega.{arith}
+use lib.ListN.{length-replicate}
 use lib.Seq.{length-take-le}
-use Rattle.ground.proofs.Tests.{both_left}
-use Rattle.state.specs.State.{valid_registers}
-use Rattle.state.proofs.Sizes.{is-size}
-use Rattle.display.specs.Frame.{frame_of}
 use Rattle.controller.specs.Run.{ran_all}
-use Rattle.printed.proofs.Prints.{lines-few, hex-lines-length, frame-lines-length}
-use Rattle.log_program.proofs.Prints.{text-short, text-long, ready-valid, ready-panel}
+use Rattle.log_program.proofs.Prints.{text-short, text-long, answers-behind, next-few, next-inside, frame-behind, text-few}
 use Rattle.log_program.proofs.print.put_ran.Goals as goal
 
-pub returns-then-ran : goal.returns-then-ran
-returns-then-ran c = let s = c.args in
-    record { text_put = text-short s.panel s.rom.now (ran_all s.ran s.memory.now s.answers.now) c.if-ran.true c.put_line-at.ensures.text_put; upper_bound = omega (arith, c.put_line-at.ensures.upper_bound) }
+pub returns-then-ran-clause-text_put : goal.returns-then-ran-clause-text_put
+returns-then-ran-clause-text_put c = let s = c.args in
+    text-short s.panel s.rom.now (ran_all s.ran s.memory.now s.answers.now) c.if-ran.true c.put_line-line.ensures.text_put
 
-pub slice_bounds-put_frame-end : goal.slice_bounds-put_frame-end
-slice_bounds-put_frame-end c = omega (arith, c.frame_size-size.ensures.upper_bound, c.requires.framed)
+pub overflow_add-next : goal.overflow_add-next
+overflow_add-next c = let line = c.put_line-line.ensures in
+    omega (arith, next-few c.args.panel c.args.ran c.requires line.text_put line.upper_bound c.print_answers.ensures)
 
-pub slice_bounds-put_frame-end-2 : goal.slice_bounds-put_frame-end-2
-slice_bounds-put_frame-end-2 c = sym (length-take-le c.frame_size-size.result c.args.frame.now (omega (arith, c.frame_size-size.ensures.upper_bound, c.requires.framed)))
+pub slice_bounds-print_rows-count : goal.slice_bounds-print_rows-count
+slice_bounds-print_rows-count c = let line = c.put_line-line.ensures in
+    next-inside c.args.panel c.args.ran c.requires line.text_put line.upper_bound c.print_answers.ensures
 
-pub put_frame-requires : goal.put_frame-requires
-put_frame-requires c = let q = ready-panel c.args.panel c.args.ran c.requires c.if-ran.false in
-    record {
-      valid = ready-valid c.args.panel c.args.ran c.requires c.if-ran.false;
-      lent = c.requires.lent;
-      sized = length-take-le c.frame_size-size.result c.args.frame.now (omega (arith, c.frame_size-size.ensures.upper_bound, c.requires.framed)) ∙ is-size c.args.panel (both_left _ (valid_registers c.args.ran.registers) (ready-valid c.args.panel c.args.ran c.requires c.if-ran.false)) c.frame_size-size.ensures.value;
-      room = omega (arith, lines-few c.args.panel q, c.put_line-at.ensures.upper_bound, c.put_answers-next.ensures.ends, hex-lines-length c.args.ran.answers c.args.answers.now, c.requires.given, c.requires.answered, c.requires.roomy, c.put_line-at.auto, c.put_answers-next.auto);
-    }
+pub slice_bounds-print_rows-start : goal.slice_bounds-print_rows-start
+slice_bounds-print_rows-start c = let line = c.put_line-line.ensures in
+    next-inside c.args.panel c.args.ran c.requires line.text_put line.upper_bound c.print_answers.ensures
 
-pub returns : goal.returns
-returns c = let q = ready-panel c.args.panel c.args.ran c.requires c.if-ran.false in
-    let first = c.put_line-at.ensures in
-    let answers = c.put_answers-next.ensures in
-    let frame = c.put_frame.ensures in
-    record { text_put = text-long c.args.panel c.args.rom.now (ran_all c.args.ran c.args.memory.now c.args.answers.now) c.if-ran.false first.text_put answers frame; upper_bound = omega (arith, frame.ends, answers.ends, first.upper_bound, frame-lines-length c.args.panel (frame_of c.args.panel c.args.ran.registers.display c.args.memory.now c.args.rom.now), hex-lines-length c.args.ran.answers c.args.answers.now, lines-few c.args.panel q, c.requires.given, c.requires.answered) }
+pub overflow_add-result : goal.overflow_add-result
+overflow_add-result c = let line = c.put_line-line.ensures in
+    let size = c.frame_size-size in
+    omega (arith, text-few c.args.panel c.args.ran c.requires line.text_put line.upper_bound c.print_answers.ensures c.if-ran.false size.ensures.value _ (length-take-le size.result _ (omega (arith, size.ensures.upper_bound, length-replicate {0} {A = ℕ} 20480 0))) c.paint.ensures.answer c.print_rows.ensures)
+
+pub returns-clause-text_put : goal.returns-clause-text_put
+returns-clause-text_put c = let s = c.args in
+    let line = c.put_line-line.ensures in
+    let size = c.frame_size-size in
+    text-long s.panel s.rom.now (ran_all s.ran s.memory.now s.answers.now) c.if-ran.false line.text_put (answers-behind s.panel s.ran c.requires line.text_put line.upper_bound c.print_answers.ensures)
+    (frame-behind s.panel s.ran c.requires line.text_put line.upper_bound c.print_answers.ensures c.if-ran.false size.ensures.value _ (length-take-le size.result _ (omega (arith, size.ensures.upper_bound, length-replicate {0} {A = ℕ} 20480 0))) c.paint.ensures.answer c.print_rows.ensures)
+
+pub returns-clause-upper_bound : goal.returns-clause-upper_bound
+returns-clause-upper_bound c = let line = c.put_line-line.ensures in
+    let size = c.frame_size-size in
+    text-few c.args.panel c.args.ran c.requires line.text_put line.upper_bound c.print_answers.ensures c.if-ran.false size.ensures.value _ (length-take-le size.result _ (omega (arith, size.ensures.upper_bound, length-replicate {0} {A = ℕ} 20480 0))) c.paint.ensures.answer c.print_rows.ensures

@@ -1,8 +1,6 @@
 -- `fill_characters` meets its contract.
 use mathlib.Core.Path.{refl}
-use native.Mathlib.Omega.{arith}
-use lib.ListN.{length}
-use Rattle.ground.proofs.Filling.{none_yet, as_long, one_more, at-end}
+use Rattle.ground.proofs.Filling.{none_yet, one_more}
 use Rattle.printed.specs.Printed.{character_row}
 use Rattle.printed.proofs.fill.fill_characters.Goals as goal
 
@@ -11,6 +9,3 @@ loop-i-init c = none_yet character_row c.args.rom.now
 
 pub loop-i-preserved : goal.loop-i-preserved
 loop-i-preserved c = one_more _ _ c.loop-i.invariant c.loop-i-test.true refl
-
-pub returns : goal.returns
-returns c = at-end _ _ c.loop-i.invariant (length c.args.rom.now) refl (omega (arith, as_long _ _ c.loop-i.invariant))

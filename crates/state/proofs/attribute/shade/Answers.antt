@@ -1,39 +1,17 @@
 -- `shade` meets its contract: cell by cell, over the dots that stand there, the attributes' address going on, or nothing.
-use Rattle.std.proofs.Common.{◌≡◌, ◌<◌, get_or, eqb, length, sym, refl, ◌∙◌, arith, eqb-true}
-use Rattle.ground.proofs.Filling.{as_long, at-end}
+use Rattle.std.proofs.Common.{◌<◌, get_or, sym, refl, ◌∙◌, arith}
+use Rattle.ground.proofs.Filling.{at-end}
 use Rattle.ground.proofs.Passes.{passes-from}
-use Rattle.ground.proofs.Tests.{both_left, both_right}
 use Rattle.state.proofs.Rounds.{shades-on, all-shaded, none-shaded}
 use Rattle.state.proofs.attribute.shade.Goals as goal
 
 pub loop-cell-init : goal.loop-cell-init
 loop-cell-init c = passes-from _ _ _ (omega arith)
 
-pub bounds-mem-at : goal.bounds-mem-at
-bounds-mem-at c = let a = c.args in
-    let long : length a.mem.now ≡ 65536 = eqb-true (length a.mem.now) 65536 (both_left _ _ c.if-mem-table.true) in
-    omega (arith, long)
-
-pub bounds-table-code : goal.bounds-table-code
-bounds-table-code c = let a = c.args in
-    let long : length a.table.now ≡ 32 = eqb-true (length a.table.now) 32 (both_right (eqb (length a.mem.now) 65536) _ c.if-mem-table.true) in
-    omega (arith, long)
-
-pub bounds-table-code-in-loop-cell : goal.bounds-table-code-in-loop-cell
-bounds-table-code-in-loop-cell c = let a = c.args in
-    let long : length a.table.now ≡ 32 = eqb-true (length a.table.now) 32 (both_right (eqb (length a.mem.now) 65536) _ c.if-mem-table.true) in
-    omega (arith, long)
-
-pub bounds-cells-cell-index : goal.bounds-cells-cell-index
-bounds-cells-cell-index c = omega (arith, as_long _ _ c.loop-cell.invariant.filled)
-
 pub loop-cell-preserved : goal.loop-cell-preserved
 loop-cell-preserved c = let a = c.args in
     let few : get_or c.loop-cell.cells c.loop-cell.cell-index 0 < 256 = omega arith in
     shades-on a.width a.mem.now a.start a.table.now a.cells.now _ c.loop-cell.invariant c.loop-cell-test.true c.full-all.ensures (omega (arith, few)) (omega arith) few refl
-
-pub shape_of-cells : goal.shape_of-cells
-shape_of-cells c = as_long _ _ c.loop-cell.invariant.filled
 
 pub returns-after-loop-cell : goal.returns-after-loop-cell
 returns-after-loop-cell c = at-end _ _ c.loop-cell.invariant.filled _ refl c.loop-cell-test.false ∙ sym (all-shaded _ _ _ _ _ refl c.if-mem-table.true)

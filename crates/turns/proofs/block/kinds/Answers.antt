@@ -3,13 +3,7 @@ use Rattle.std.proofs.Common.{arith}
 use Rattle.turns.proofs.Blocks.{kinds-on}
 use Rattle.turns.proofs.block.kinds.Goals as goal
 
-pub loop-j-init : goal.loop-j-init
-loop-j-init c = (omega arith, λ e j h. absurd (omega arith))
-
 pub loop-j-preserved : goal.loop-j-preserved
 loop-j-preserved c = let a = c.args in
     let k = c.loop-j in
     (omega arith, kinds-on a.log.now a.from k.j k.any k.invariant.1)
-
-pub returns : goal.returns
-returns c = λ e j h. c.loop-j.invariant.1 e j (omega arith)

@@ -14,9 +14,6 @@ pub loop-i-init : goal.loop-i-init
 loop-i-init c = let s = c.args in
     flagging s.panel s.rom.now s.log.now s.total s.registers s.memory.now s.flags.now s.answers.now s.skips.now (sounds s.registers s.memory.now c.requires.following.state (whole-memory s.panel s.registers s.memory.now s.rom.now s.flags.now (record { kind = 0; byte = 0 }) c.requires.following)) c.requires.following.rows
 
-pub stretch-end-requires : goal.stretch-end-requires
-stretch-end-requires c = record { mem_len = c.loop-i.invariant.goes_on.sound.sound.memory; total_in_bounds = (c.requires.total_in_bounds, omega (arith, c.loop-i-test.true)) }
-
 pub loop-i-smaller-then-kind-is_write : goal.loop-i-smaller-then-kind-is_write
 loop-i-smaller-then-kind-is_write c = let on = block-moves c.stretch-end.ensures.blocked c.loop-i-test.true c.requires.total_in_bounds (eqb-true _ 0 (both_left _ _ c.if-kind-is_write.true)) in
     omega (arith, on, c.loop-i-test.true)

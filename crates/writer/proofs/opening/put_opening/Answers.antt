@@ -4,15 +4,8 @@ use native.Mathlib.Nat.{mul_comm}
 use Rattle.writer.specs.Stream.{graphic_home, set_up}
 use Rattle.writer.proofs.Lengths.{run_length}
 use Rattle.writer.proofs.Puts.{put-opening, put-block-as}
-use Rattle.state.proofs.Sizes.{cells-few}
 use native.Mathlib.Omega.{arith}
 use Rattle.writer.proofs.opening.put_opening.Goals as goal
-
-pub overflow_mul-cells : goal.overflow_mul-cells
-overflow_mul-cells c = omega (arith, cells-few c.args.panel c.requires.panel_value)
-
-pub overflow_mul-cells-2 : goal.overflow_mul-cells-2
-overflow_mul-cells-2 c = omega (arith, cells-few c.args.panel c.requires.panel_value)
 
 pub run-requires : goal.run-requires
 unfolding set_up

@@ -1,11 +1,6 @@
 -- `put_planes` meets its contract: four commands with their data.
 use Rattle.writer.proofs.Puts.{put_both, put-word-as}
-use Rattle.state.proofs.Sizes.{columns-few}
-use native.Mathlib.Omega.{arith}
 use Rattle.writer.proofs.opening.put_planes.Goals as goal
-
-pub overflow_cast-columns : goal.overflow_cast-columns
-overflow_cast-columns c = omega (arith, columns-few c.args.panel c.requires.panel_value)
 
 pub returns : goal.returns
 returns c = put_both (put-word-as c.text_home.ensures c.command_with_word.ensures) (put_both c.command_with.ensures (put_both c.command_with_word-2.ensures c.command_with-2.ensures))

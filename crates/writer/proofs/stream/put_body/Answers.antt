@@ -1,5 +1,7 @@
 -- `put_body` meets its contract: what is left of the body is still to be put.
-use mathlib.Core.Path.{refl, sym}
+use mathlib.Core.Path.{◌≡◌, refl, sym}
+use Rattle.std.specs.Prelude.{None}
+use Rattle.std.proofs.Common.{rules}
 use Rattle.writer.proofs.Bodies.{writing, writing-found, writing-ready, writing-on, writing-ends, writing-never}
 use native.Mathlib.Omega.{arith}
 use Rattle.writer.proofs.stream.put_body.Goals as goal
@@ -16,8 +18,10 @@ loop-standing-smaller c = let a = c.args in let k = writing-found a.panel a.book
 pub loop-standing-preserved : goal.loop-standing-preserved
 loop-standing-preserved c = let a = c.args in writing-on a.panel a.book.now a.start a.end c.loop-standing.invariant refl (sym (rw c.in-Ok-Some.field-0-is at c.in-Ok-Some.ensures.value)) c.put_operation.ensures
 
-pub returns-in-Ok-None : goal.returns-in-Ok-None
-returns-in-Ok-None c = let a = c.args in writing-ends a.panel a.book.now a.start a.end c.loop-standing.invariant refl (sym (rw c.in-Ok-None.field-0-is at c.in-Ok-None.ensures.value))
+pub returns-in_default : goal.returns-in_default
+returns-in_default c = let a = c.args in
+    let none : c.in_default.field-0 ≡ None = search rules in
+    writing-ends a.panel a.book.now a.start a.end c.loop-standing.invariant refl (sym (rw (c.in_default.is, none) at c.read.ensures.value))
 
-pub returns-in-Err : goal.returns-in-Err
-returns-in-Err c = let a = c.args in absurd (writing-never a.panel a.book.now a.start a.end c.loop-standing.invariant refl (sym c.in-Err.ensures.value))
+pub returns-in_default-2 : goal.returns-in_default-2
+returns-in_default-2 c = let a = c.args in absurd (writing-never a.panel a.book.now a.start a.end c.loop-standing.invariant refl (sym (rw c.in_default.is at c.read.ensures.value)))

@@ -1,11 +1,6 @@
 -- `block` meets its contract: pointer set, B0H, the bytes, B2H.
-use Rattle.writer.proofs.Lengths.{data-length}
 use Rattle.writer.proofs.Puts.{put-block}
-use native.Mathlib.Omega.{arith}
 use Rattle.writer.proofs.put.Stream.block.Goals as goal
-
-pub command-requires-2 : goal.command-requires-2
-command-requires-2 c = omega (arith, data-length c.args.bytes.now)
 
 pub returns : goal.returns
 returns c = put-block c.args.address c.args.bytes.now c.command_with_word.ensures c.command.ensures c.data.ensures c.command-2.ensures

@@ -1,15 +1,8 @@
 -- `data` meets its contract: one datum for each byte.
 use mathlib.Core.Path.{refl}
-use lib.ListN.{length}
-use Rattle.writer.proofs.Loops.{looping, loop-room, loop-on, loop-over, bytes_left, bytes_next, bytes-none}
+use Rattle.writer.proofs.Loops.{loop-on, loop-over, bytes_next, bytes-none}
 use native.Mathlib.Omega.{arith}
 use Rattle.writer.proofs.put.Stream.data.Goals as goal
-
-pub loop-byte-init : goal.loop-byte-init
-loop-byte-init c = let a = c.args in looping a.self.now (length a.bytes.now) 1 (bytes_left a.bytes.now)
-
-pub put-requires : goal.put-requires
-put-requires c = loop-room c.loop-byte.invariant (omega arith) (omega arith)
 
 pub loop-byte-preserved : goal.loop-byte-preserved
 loop-byte-preserved c = loop-on c.loop-byte.invariant (bytes_next c.args.bytes.now c.loop-byte.byte-index (omega arith)) refl c.put.ensures

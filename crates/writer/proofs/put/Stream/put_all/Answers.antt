@@ -1,15 +1,8 @@
 -- `put_all` meets its contract: one pair after the other.
 use mathlib.Core.Path.{refl}
-use lib.ListN.{length}
-use Rattle.writer.proofs.Loops.{looping, loop-room, loop-on, loop-over, pairs_left, pairs_next, pairs-none}
+use Rattle.writer.proofs.Loops.{loop-on, loop-over, pairs_next, pairs-none}
 use native.Mathlib.Omega.{arith}
 use Rattle.writer.proofs.put.Stream.put_all.Goals as goal
-
-pub loop-pair-init : goal.loop-pair-init
-loop-pair-init c = let a = c.args in looping a.self.now (length a.pairs.now) 1 (pairs_left a.pairs.now)
-
-pub put-requires : goal.put-requires
-put-requires c = loop-room c.loop-pair.invariant (omega arith) (omega arith)
 
 pub loop-pair-preserved : goal.loop-pair-preserved
 loop-pair-preserved c = loop-on c.loop-pair.invariant (pairs_next c.args.pairs.now c.loop-pair.pair-index _ (omega arith)) refl c.put.ensures

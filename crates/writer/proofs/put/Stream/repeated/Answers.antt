@@ -1,14 +1,8 @@
 -- `repeated` meets its contract: one datum in each turn.
 use mathlib.Core.Path.{refl}
-use Rattle.writer.proofs.Loops.{looping, loop-room, loop-on, loop-over, fill_left, fill-next, fill_none, fill-all}
+use Rattle.writer.proofs.Loops.{loop-on, loop-over, fill-next, fill_none, fill-all}
 use native.Mathlib.Omega.{arith}
 use Rattle.writer.proofs.put.Stream.repeated.Goals as goal
-
-pub loop-init : goal.loop-init
-loop-init c = let a = c.args in looping a.self.now a.n 1 (fill_left a.byte a.n)
-
-pub put-requires : goal.put-requires
-put-requires c = loop-room c.loop.invariant (omega arith) (omega arith)
 
 pub loop-preserved : goal.loop-preserved
 loop-preserved c = loop-on c.loop.invariant (fill-next c.args.byte c.args.n c.loop.counter (omega arith)) refl c.put.ensures

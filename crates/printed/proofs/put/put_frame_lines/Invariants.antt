@@ -1,9 +1,0 @@
--- `put_frame_lines` meets its contract: the rows so far, one more at each turn.
-use Prim.Native.Nat.{◌≤◌, ◌+◌, ◌*◌}
-use Rattle.ground.specs.Lists.{joined}
-use Rattle.printed.specs.Text.{dot_line}
-use Rattle.printed.proofs.Puts.{Putting}
-use Rattle.printed.proofs.put.put_frame_lines.Given as goal
-
-abbrev pub invariant-loop-row : goal.invariant-loop-row
-invariant-loop-row l = (l.row ≤ l.rows) × Putting l.initial.out l.at (joined l.row (λ r. dot_line l.frame (r * l.bytes) l.dots)) (l.row * (l.dots + 1)) l.out l.w

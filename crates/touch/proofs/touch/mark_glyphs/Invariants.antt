@@ -1,8 +1,0 @@
--- `mark_glyphs` meets its contract: row by row.
-use Rattle.ground.proofs.Filling.{Filled}
-use Rattle.touch.specs.Ready.{glyph_meets}
-use Rattle.touch.proofs.Marks.{mark_at}
-use Rattle.touch.proofs.touch.mark_glyphs.Given as goal
-
-abbrev pub invariant-loop-row : goal.invariant-loop-row
-invariant-loop-row l = Filled (mark_at (λ r. glyph_meets l.panel l.display l.memory r l.at l.n) l.initial.flags) l.initial.flags l.flags l.row

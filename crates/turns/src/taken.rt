@@ -1,0 +1,9 @@
+// What a pair that is taken leaves.
+use state::registers::Registers;
+
+/// The registers behind it, and the answers given so far: by value, since a local that is lent would stay in memory for a run's whole loop.
+#[derive(Clone, Copy, Debug, PartialEq, Eq)]
+pub struct Taken {
+    pub registers: Registers,
+    pub given: usize,
+}
