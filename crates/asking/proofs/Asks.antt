@@ -19,7 +19,8 @@ use Rattle.book.specs.Screen.{Screen, screen, refused, screen_of}
 use Rattle.writer.specs.Stream.{stream_of, count_of}
 use Rattle.writer.specs.Written.{Written, written_reply, count_screen, counted_screen, Wrote, wrote, wrote_all, write_of}
 use Rattle.writer.proofs.Lengths.{stream-length}
-use Rattle.writer.proofs.Answers.{CountedStream, write-fits}
+use Rattle.writer.proofs.Answers.{CountedStream, write-fits, same_written}
+use Rattle.std.proofs.Common.{Result}
 use Rattle.asking.specs.Asking.{asked_pairs, ask_screen, asking_of}
 use Rattle.asking.specs.Spread.{spread_of}
 use Rattle.asking.proofs.Spreads.{spread-asks}
@@ -71,3 +72,8 @@ pub asking-settled : {x y : Written} {a b : List ℕ} (p : Panel) (book : List �
     → wrote_all x a ≡ asking_of p book number room → wrote_all y b ≡ asking_of p book number room → (x ≡ y) × (a ≡ b)
 asking-settled p book number room h k =
     (ap (λ (o : Wrote). o.written) (settled h k), ap (λ (o : Wrote). o.room) (settled h k))
+
+-- and so are the results that stand for them
+pub asking-result-settled : {x y : Result ℕ Refused} {a b : List ℕ} (p : Panel) (book : List ℕ) (number : ℕ) (room : List ℕ)
+    → wrote_all (written_reply x) a ≡ asking_of p book number room → wrote_all (written_reply y) b ≡ asking_of p book number room → (x ≡ y) × (a ≡ b)
+asking-result-settled {x} {y} p book number room h k = let s = asking-settled p book number room h k in (same_written x y s.0, s.1)

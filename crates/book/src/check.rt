@@ -19,6 +19,7 @@ pub struct Checked {
     pub pairs: usize,
 }
 
+// Start and end and no `Span`, of which the walk would read these two alone, each by a longer name.
 // The pairs of a body's operations, added up one after the other.
 fn count(panel: Panel, book: &[u8], start: usize, end: usize) -> Result<usize, Refused>
     requires panel_value { valid_panel panel ≡ true }
@@ -27,6 +28,7 @@ fn count(panel: Panel, book: &[u8], start: usize, end: usize) -> Result<usize, R
 {
     let mut at = start;
     let mut total: usize = 0;
+    // no iterator of operations: it would yield Results, tested in each round as here, and save the round's last line alone
     while let Some(standing) = read(panel, book, at, end).map_err(|refusal| Refused {
         refusal,
         place: at,

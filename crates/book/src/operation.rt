@@ -1,6 +1,6 @@
 // The operations of a screen, as they stand in the book.
 ghost use Rattle.std.specs.Prelude.{◌≡◌, IfErr};
-ghost use Rattle.book.specs.Operation.{sized, read_text, read_rectangle, read_dot, read_glyph, read_cursor, combination_of, read_combine, found_here, found_at};
+ghost use Rattle.book.specs.Operation.{sized, read_text, read_rectangle, read_dot, read_glyph, read_cursor, read_combine, found_here, found_at};
 ghost use Rattle.book.specs.Pairs.{placed_pairs};
 ghost use Rattle.state.specs.declared.refusal.Refusal.TheVariants.{WrongOperation};
 ghost use Rattle.book.specs.Screen.{operations_from};
@@ -17,16 +17,17 @@ use state::registers::Combination;
 /// An operation; codes and rows stay in the book, at a byte of it.
 #[derive(Clone, Copy, Debug, PartialEq, Eq)]
 pub enum Placed {
-    // line, column, where the codes stand, how many
+    /// line, column, where the codes stand, how many
     Text(u8, u8, usize, u8),
-    // top, column, height, width, value
+    /// top, column, height, width, value
     Rectangle(u8, u8, u8, u8, u8),
-    // x, y, set or reset
+    /// x, y, set or reset
     Dot(u16, u8, bool),
-    // code, where the eight rows stand
+    /// code, where the eight rows stand
     Glyph(u8, usize),
-    // line, column, height, blink
+    /// line, column, height, blink
     Cursor(u8, u8, u8, bool),
+    /// how text and graphic are combined
     Combine(Combination),
 }
 
@@ -37,6 +38,7 @@ pub struct Standing {
     pub next: usize,
 }
 
+// `ranged` goes beside `placed`, so that one test stands for the five that return early in the functions below.
 // An operation of `size` bytes, unless it is cut by the body's end or out of range.
 fn whole(here: &Here<'_>, size: usize, ranged: bool, placed: Placed) -> Option<Standing>
     ensures { standing result ≡ sized here.now.at here.now.end size ranged placed }
@@ -127,26 +129,19 @@ fn read_cursor(here: &Here<'_>) -> Option<Standing>
     whole(here, 5, ranged, placed)
 }
 
-// 0 OR, 1 EXOR, 2 AND, whatever is above: no `TryFrom`, since `known` judges the number beside it and no other caller reads it.
-fn combination_of(k: u8) -> Combination
-    ensures { result ≡ combination_of k }
-{
-    match k {
-        0 => Combination::Or,
-        1 => Combination::Exor,
-        _ => Combination::And,
-    }
-}
-
-// 6 k. A book of form two begins with 0, and does not know AND.
+// 6 k: 0 OR, 1 EXOR, 2 AND. A book of form two begins with 0, and does not know AND.
 fn read_combine(here: &Here<'_>) -> Option<Standing>
     ensures { standing result ≡ read_combine here.now.book.now here.now.at here.now.end }
 {
+    // the definition's `is_two`, here as in contents and layout: a function would say this one test by another name
     let two = byte_at(here.book, 0) == 0;
-    let k = here.byte(1);
-    let placed = Placed::Combine(combination_of(k));
-    let known = (k <= 2) & !(two & (k == 2));
-    whole(here, 2, known, placed)
+    let combination = match here.byte(1) {
+        0 => Combination::Or,
+        1 => Combination::Exor,
+        2 if !two => Combination::And,
+        _ => return None,
+    };
+    whole(here, 2, true, Placed::Combine(combination))
 }
 
 // The operation that begins at a byte inside the body.
@@ -176,19 +171,20 @@ pub fn read(panel: Panel, book: &[u8], at: usize, end: usize) -> Result<Option<S
     if end <= at {
         return Ok(None);
     }
-    if end <= book.len() {
-        let here = Here {
-            panel,
-            book,
-            at,
-            end,
-        };
-        return match read_here(&here) {
-            Some(standing) => Ok(Some(standing)),
-            None => Err(Refusal::WrongOperation),
-        };
+    if book.len() < end {
+        return Err(Refusal::WrongOperation);
     }
-    Err(Refusal::WrongOperation)
+    let here = Here {
+        panel,
+        book,
+        at,
+        end,
+    };
+    // `.map(Some).ok_or(..)` would turn the Option inside out, no plainer than these two arms
+    match read_here(&here) {
+        Some(standing) => Ok(Some(standing)),
+        None => Err(Refusal::WrongOperation),
+    }
 }
 
 /// The pairs that an operation is written in.

@@ -1,4 +1,5 @@
-// The functions that C calls: every input gets a reply.
+// The functions that C calls: every input gets a reply. Each body is written out, here and in following and writing: for one of them all a
+// closure would have to be lent registers and counts beside it and answer u8, u16 or u32.
 ghost use Rattle.std.specs.Prelude.{◌≡◌};
 ghost use Rattle.image.specs.Door.{panel_of};
 ghost use Rattle.boundary.specs.Exports.{access_end, access_bytes, run_end, stopping_bytes, paint_end, paint_bytes, layers_word, layers_bytes, reset_end, reset_bytes, run_on_end, run_on_bytes};
@@ -49,7 +50,7 @@ pub extern "C" fn t6963c_access(
     }
 }
 
-/// At most `limit` pairs of a log, refused ones skipped and listed: the number. `counts` becomes place, pairs taken, answers written, pairs listed.
+/// At most `limit` pairs of a log, refused ones skipped and listed: the number. `counts` becomes place, pairs taken, answers, pairs listed.
 #[tactic(auto, unfolding(crate::specs::Exports::run_on_bytes))]
 #[unsafe(no_mangle)]
 pub extern "C" fn t6963c_run(
@@ -90,7 +91,7 @@ pub extern "C" fn t6963c_run(
     }
 }
 
-/// At most `limit` pairs of a log, up to the first refused: the number. `counts` becomes place, pairs taken, answers written.
+/// At most `limit` pairs of a log, up to the first refused: the number. `counts` becomes place, pairs taken, answers.
 #[tactic(auto, unfolding(crate::specs::Exports::stopping_bytes))]
 #[unsafe(no_mangle)]
 pub extern "C" fn t6963c_run_stopping(

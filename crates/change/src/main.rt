@@ -3,10 +3,10 @@
 // is in two halves.
 #![tactic(auto)]
 
+use contents::bytes::word_at;
 use difference::write::write_change;
-use ground::bytes::word;
 use printed::fill::zeroed;
-use printed::input::{byte_in, panel_in, rest_in};
+use printed::input::{panel_in, rest_in};
 use report::{finish, has_argument, put_refused, read_whole};
 use std::io::{Print, Result};
 
@@ -14,8 +14,8 @@ use std::io::{Print, Result};
 // is a cursor.
 fn write_input(rt: HostRuntime, dual: bool, input: &[u8]) -> Result<u8> {
     let panel = panel_in(input, dual);
-    let a = word(byte_in(input, 3), byte_in(input, 4)) as usize;
-    let b = word(byte_in(input, 5), byte_in(input, 6)) as usize;
+    let a = word_at(input, 3) as usize;
+    let b = word_at(input, 5) as usize;
     let book = rest_in(input, 7);
     let mut room = zeroed::<240652>();
     match write_change(panel, book, a, b, &mut room) {
@@ -28,7 +28,7 @@ fn write_input(rt: HostRuntime, dual: bool, input: &[u8]) -> Result<u8> {
     }
 }
 
-// Its own in each program: the room's length and what is shown differ, and no public function has the `requires` that a closure needs.
+// Its own in each program: what is shown differs, and no public function has the `requires` that a closure needs (docs/PROMISES.md).
 // One byte past the limit shows that a book is too long.
 fn change(rt: HostRuntime) -> Result<u8> {
     let mut input = [0u8; 32776];

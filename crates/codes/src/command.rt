@@ -8,7 +8,7 @@ use state::registers::{Auto, Combination, DisplayBits, Move, Target};
 #[derive(Clone, Copy, Debug, PartialEq, Eq)]
 pub enum Command {
     Set(Target),
-    // external, combination
+    /// Whether codes are external, and the combination.
     Mode(bool, Combination),
     DisplayMode(DisplayBits),
     Height(u8),
@@ -17,7 +17,7 @@ pub enum Command {
     Load(Move),
     Peek,
     Copy,
-    // set or reset, and which bit, 0 to 7
+    /// Whether it is set, and which bit, 0 to 7.
     Bit(bool, u8),
 }
 

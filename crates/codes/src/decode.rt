@@ -5,8 +5,10 @@ ghost use Rattle.codes.specs.Decoded.{decoded};
 ghost use Rattle.codes.specs.Numbers.{code_number, decoded_number};
 
 use super::command::Command;
+use ground::bytes::bit;
 use state::registers::{Auto, Combination, DisplayBits, Move, Target};
 
+// One table for each high four bits, here and below; `low` is the low four.
 fn register(low: u8) -> Option<Command>
     ensures { decoded result ≡ register_of low }
 {
@@ -33,7 +35,7 @@ fn control(low: u8) -> Option<Command>
 fn mode(low: u8) -> Option<Command>
     ensures { decoded result ≡ mode_of low }
 {
-    let external = (low >> 3) % 2 == 1;
+    let external = bit(low, 3) == 1;
     let kind = low % 8;
     match kind {
         0 => Some(Command::Mode(external, Combination::Or)),
@@ -48,10 +50,10 @@ fn display_mode(low: u8) -> Option<Command>
     ensures { decoded result ≡ display_mode_of low }
 {
     Some(Command::DisplayMode(DisplayBits {
-        graphic: (low >> 3) % 2 == 1,
-        text: (low >> 2) % 2 == 1,
-        cursor: (low >> 1) % 2 == 1,
-        blink: (low >> 0) % 2 == 1,
+        graphic: bit(low, 3) == 1,
+        text: bit(low, 2) == 1,
+        cursor: bit(low, 1) == 1,
+        blink: bit(low, 0) == 1,
     }))
 }
 
@@ -103,7 +105,7 @@ fn sight_code(low: u8) -> Option<Command>
 fn bit_code(low: u8) -> Option<Command>
     ensures { decoded result ≡ bit_code_of low }
 {
-    Some(Command::Bit((low >> 3) % 2 == 1, low % 8))
+    Some(Command::Bit(bit(low, 3) == 1, low % 8))
 }
 
 /// The command that a code, 00H to FFH, stands for; none where it is undefined.

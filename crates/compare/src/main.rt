@@ -12,7 +12,7 @@ use std::io::Result;
 // The bytes of a log that count.
 const LIMIT: usize = 16384;
 
-// A register's name, by its place in document 01's order.
+// A register's name, by its place in the order of docs/FORMATS.md.
 fn name(register: usize) -> &'static str {
     match register {
         0 => "cursor-x",
@@ -35,6 +35,7 @@ fn name(register: usize) -> &'static str {
     }
 }
 
+// A flat list, as `compare`, which docs/PROMISES.md names, fills it.
 // What differs and its two values, three numbers each: so many entries of memory, then those of registers. Where a line can't be written
 // the others are tried all the same.
 fn put_apart(rt: HostRuntime, apart: Compared, list: &[usize]) -> Result<()> {
@@ -54,6 +55,7 @@ fn put_apart(rt: HostRuntime, apart: Compared, list: &[usize]) -> Result<()> {
     written.and(println!(rt; "dots {}", apart.dots))
 }
 
+// The length by `word`, as there is no book here, of which contents' `word_at` reads.
 // Behind the panel two bytes, low byte first, say how long log one is; log two is the rest.
 fn show(rt: HostRuntime, rom: &[u8], input: &[u8]) -> Result<u8> {
     let panel = panel_in(input, has_argument(&rt, 2));
@@ -75,7 +77,7 @@ fn show(rt: HostRuntime, rom: &[u8], input: &[u8]) -> Result<u8> {
     }
 }
 
-// Its own in each program: the room's length and what is shown differ, and no public function has the `requires` that a closure needs.
+// Its own in each program: what is shown differs, and no public function has the `requires` that a closure needs (docs/PROMISES.md).
 // Two logs run and compared: the refusal number.
 fn compare_logs(rt: HostRuntime) -> Result<u8> {
     let mut rom = character_rom();

@@ -7,7 +7,7 @@ ghost use Rattle.whole.specs.Whole.{whole_of};
 ghost use Rattle.comparison.specs.Ready.{Few, RanReset};
 ghost use Rattle.comparison.specs.Verdict.{compared, compared_all, told_of, compare_of};
 
-use super::dots::dots;
+use super::dots::Pictures;
 use entries::enter::{Entries, NoRoom, enter};
 use image::values::register_values;
 use state::panel::Panel;
@@ -23,13 +23,13 @@ pub struct Compared {
     pub dots: usize,
 }
 
-// `number` stays a number: `playback::play`, on whose runs these logs go, takes a `Ran` and hands on any number that stands in it
+// `number` is no `Refusal`: `Refusal::try_from(ran.number)` below would have an arm for a number that no run gives, and no answer for it.
 /// Why nothing was compared: a refusal's number, as a run gives it, its place, and the log that it is of, 1 or 2, or 0 for neither.
 #[derive(Clone, Copy, Debug, PartialEq, Eq)]
 pub struct Refused {
     pub number: u8,
     pub place: usize,
-    // printed as a number too, 0 for neither
+    // no Option: the line of it has 0 for neither (docs/FORMATS.md), which `log.unwrap_or(0)` would only make again
     pub log: u8,
 }
 
@@ -69,6 +69,7 @@ fn told(answer: Result<Entries, NoRoom>, dots: usize) -> Result<Compared, Refuse
     }
 }
 
+// One by one, as `run_all` takes them.
 // A log from reset in a memory: the registers then, or its refusal, of log `number`.
 fn run_reset(
     panel: Panel,
@@ -90,6 +91,8 @@ fn run_reset(
     Ok(ran.registers)
 }
 
+// A list of numbers, three an entry: docs/PROMISES.md names this, as it does `enter`, which fills it. The two tests at the head stand here: a
+// function for all entries would take them as flags.
 /// Two logs of any length, both from reset: log one in memory `one`, log two in `two`, first made a copy of it, 65,536 bytes each, ROM of
 /// 1,024. Every address whose bytes differ, then every register that does, three numbers each, at the list's start. Invalid, WrongLength;
 /// then the refusal of log one, of log two; then NoRoomInList with the entries needed, and a refusal leaves the list as it was.
@@ -117,7 +120,15 @@ pub fn compare(
     two.copy_from_slice(one);
     let first = run_reset(panel, one, rom, log_one, 1)?;
     let second = run_reset(panel, two, rom, log_two, 2)?;
-    let apart = dots(panel, first.display, second.display, one, two, rom);
+    let pictures = Pictures {
+        panel,
+        first: first.display,
+        one,
+        second: second.display,
+        two,
+        rom,
+    };
+    let apart = pictures.dots_apart();
     let a = register_values(first);
     let b = register_values(second);
     told(enter(one, two, &a, &b, list), apart)

@@ -10,7 +10,9 @@ use lib.ListN.{length, get_or}
 use Rattle.ground.proofs.Tests.{settled}
 use Rattle.contents.specs.declared.entry.Entry.{Entry}
 use Rattle.std.proofs.Common.{◌==◌, find, Option, Some, None}
-use Rattle.std.specs.Prelude.{Result, Ok, Err, IfOk}
+use Rattle.std.specs.Prelude.{Result, Ok, Err, IfOk, IfSome}
+use Rattle.std.specs.Option.{ok_or}
+use Rattle.state.specs.declared.refusal.Refusal.TheVariants.{NoSuchScreen}
 use Rattle.state.specs.Refusals.{number_of}
 use Rattle.state.specs.declared.refusal.Refused.{Refused as Turned}
 use Rattle.state.proofs.RefusalNumbers.{same_number}
@@ -46,6 +48,15 @@ sought-in (s ∷ ss) key = go (s.key == key) (sought-in ss key)
         → sought (cond v (Some s) (find (λ (x : Span). x.key == key) ss)) ≡ cond v (Asked-Body s.start s.end) (body_at (bodies ss) key)
     go true h = refl
     go false h = h
+
+-- a screen that is found, or the refusal of none
+pub asked-or : (o : Option Span) (e : Turned) → (e.refusal ≡ NoSuchScreen) × (e.place ≡ 0) → asked (ok_or o e) ≡ sought o
+asked-or (Some s) e h = refl
+asked-or None e h = rw (h.0, h.1) refl
+
+pub key-or : (key : ℕ) (o : Option Span) (e : Turned) → IfSome o (λ (s : Span). s.key ≡ key) → IfOk (ok_or o e) (λ (s : Span). s.key ≡ key)
+key-or key (Some s) e h = h
+key-or key None e h = tt
 
 pub asked-found : (book : List ℕ) (key : ℕ) (ss : List Span) {r : Option Span} → contents_of book ≡ sound (bodies ss) → r ≡ find (λ (s : Span). s.key == key) ss → sought r ≡ asked_of book key
 unfolding asked_of

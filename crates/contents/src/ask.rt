@@ -25,8 +25,5 @@ pub fn ask(book: &[u8], key: usize) -> Result<Span, Refused>
     ensures key { IfOk result (λ s. s.key ≡ key) }
 {
     let spans = open(book)?;
-    match sought(spans.all(), key) {
-        Some(span) => Ok(span),
-        None => Err(Refusal::NoSuchScreen.into()),
-    }
+    sought(spans.all(), key).ok_or(Refused::from(Refusal::NoSuchScreen))
 }

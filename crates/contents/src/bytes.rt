@@ -12,7 +12,7 @@ pub fn byte_at(book: &[u8], at: usize) -> u8
     book.get(at).copied().unwrap_or(0)
 }
 
-/// 16 bits, low byte first; 0 behind its end.
+/// 16 bits of the book, low byte first; a byte behind its end counts as 0.
 pub fn word_at(book: &[u8], at: usize) -> u16
     ensures { result ≡ word_at book.now at }
 {

@@ -12,7 +12,8 @@ pub struct Entry {
     pub size: u16,
 }
 
-/// The byte that holds n. The form is a `bool` here and below: the definitions and the pages name these functions so.
+// The form is a `bool`, here and below: docs/PROMISES.md names these functions, which take it so.
+/// The byte that holds n.
 pub fn count_at(two: bool) -> usize
     ensures { result ≡ count_at two }
 {

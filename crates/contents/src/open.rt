@@ -1,4 +1,4 @@
-// The contents of a book, by value.
+// The contents of a book, read and judged.
 ghost use Rattle.std.specs.Prelude.{◌≡◌, ◌≤◌, length};
 ghost use Rattle.contents.specs.Contents.{is_two, first_body, entries_at, entries_from, contents_of};
 ghost use Rattle.contents.specs.Spans.{spans_of};
@@ -9,6 +9,7 @@ use super::entry::{count_at, entries_at, entry_at, entry_size, first_body, wrong
 use super::spans::{Span, Spans};
 use state::refusal::{Refusal, Refused};
 
+// The form as a `bool`, as `entry_at` and the functions beside it take it.
 // Every entry of n, each body to begin where the last one ended, each key above the last.
 fn entries(two: bool, book: &[u8], n: u8) -> Result<Spans, Refused>
     requires { (first_body two n ≤ length book.now) × (length book.now ≤ 32768) × (n ≤ 64) }
@@ -47,6 +48,7 @@ pub fn open(book: &[u8]) -> Result<Spans, Refused>
     ensures value { opened result ≡ spans_of (is_two book.now) (contents_of book.now) }
     ensures contents { Opens (is_two book.now) (contents_of book.now) result }
 {
+    // the definition's `is_two`, here as in book and layout: a function would say this one test by another name
     let two = byte_at(book, 0) == 0;
     let n = byte_at(book, count_at(two));
     let size = book.len();

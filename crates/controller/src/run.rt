@@ -37,6 +37,7 @@ pub struct RanOn {
     pub skipped: usize,
 }
 
+// a function, though it is one struct literal: docs/PROMISES.md names it
 /// What a run answers, part by part.
 pub fn ended(
     number: u8,
@@ -60,8 +61,11 @@ pub fn ended(
     }
 }
 
-// The first `total` pairs of a log, on a machine that is known to be valid; one loop for the run that stops and the one that skips, as
-// `either_run` and `noted_of` have it. What is lent comes one by one, as the two runs take it, and a struct would be taken apart at once.
+// What is lent comes one by one, here and below, as docs/PROMISES.md has `run` and `run_stopping`; a struct would be taken apart at once.
+// `skipping` stays a flag, here and in `enter`: one loop is the run that stops and the one that skips, as `either_run` and `noted_of` have it.
+// Kinds stay numbers: `turn` refuses those above 4, and with a `Kind` there would be a second place for refusals (docs/SPEED.md has one).
+//
+// The first `total` pairs of a log, on a machine that is known to be valid.
 fn pairs(
     panel: Panel,
     registers: Registers,
@@ -160,6 +164,8 @@ fn pairs(
     ended(0, 0, i, given, Registers { display, bus }, listed)
 }
 
+// The door is written out: a `RanOn` is answered, so that no `?` can hand on what a shared test refuses.
+//
 // At most `limit` pairs of a log: the tests at the door, then pair after pair.
 fn enter(
     panel: Panel,

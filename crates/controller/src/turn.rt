@@ -10,7 +10,10 @@ use state::refusal::Refusal;
 use state::registers::Registers;
 use turns::taken::Taken;
 
-// One pair of a run, by value: a local that is lent would stay in memory for the whole loop. What a read gives goes into the buffer.
+// Parameters one by one, and `kind` a number beside `byte`, as docs/PROMISES.md has `turn` and `access`. Registers and `given` by value: a local
+// that is lent would stay in memory for the whole loop. No `get_mut(given)`: behind it a proof knows no byte of the buffer.
+//
+// One pair of a run. What a read gives goes into the buffer.
 pub(crate) fn turn(
     panel: Panel,
     registers: Registers,

@@ -17,7 +17,10 @@ use Rattle.book.specs.Operation.{Operation}
 use Rattle.book.specs.Screen.{screen, screen_in, screen_of}
 use Rattle.writer.specs.Stream.{operation_pairs}
 use Rattle.writer.specs.Stream.{operation_pairs}
-use Rattle.writer.specs.Written.{Written, Wrote, wrote_all, wrote}
+use Rattle.writer.specs.Written.{Written, written_reply, Wrote, wrote_all, wrote}
+use Rattle.writer.proofs.Answers.{same_written}
+use Rattle.std.proofs.Common.{Result}
+use Rattle.state.specs.declared.refusal.Refused.{Refused as Refusing}
 use Rattle.picture.specs.Laid.{Laid, Nowhere, Over}
 use Rattle.picture.specs.Picture.{Picture, picture_of}
 use Rattle.difference.specs.Short.{end_pairs, short_over, short_stream, change_count, end_count, count_over, short_count}
@@ -70,3 +73,8 @@ same_count a = omega (arith, same_none a.graphic, same_none a.codes, same_none a
 pub change-settled : {x y : Written} {r₁ r₂ : List ℕ} (p : Panel) (book : List ℕ) (a b : ℕ) (room : List ℕ)
     → wrote_all x r₁ ≡ change_of p book a b room → wrote_all y r₂ ≡ change_of p book a b room → (x ≡ y) × (r₁ ≡ r₂)
 change-settled p book a b room i j = let e = settled i j in (ap (λ (o : Wrote). o.written) e, ap (λ (o : Wrote). o.room) e)
+
+-- and so are the results that stand for them
+pub change-result-settled : {x y : Result ℕ Refusing} {r₁ r₂ : List ℕ} (p : Panel) (book : List ℕ) (a b : ℕ) (room : List ℕ)
+    → wrote_all (written_reply x) r₁ ≡ change_of p book a b room → wrote_all (written_reply y) r₂ ≡ change_of p book a b room → (x ≡ y) × (r₁ ≡ r₂)
+change-result-settled {x} {y} p book a b room i j = let s = change-settled p book a b room i j in (same_written x y s.0, s.1)

@@ -35,6 +35,7 @@ fn put_changes(stream: &mut Stream, home: u16, old: &[u8], new: &[u8])
     requires { Changing home old.now new.now stream.old }
     ensures { Puts stream.old (changes_from home old.now new.now) stream.new }
 {
+    // tried over a `zip`: such a loop has no index that its invariant could name
     for (i, byte) in new.iter().enumerate() {
         if old[i] != *byte {
             put_change(stream, home + i as u16, *byte);

@@ -61,7 +61,7 @@ impl Drawn {
     }
 }
 
-// Both screens are there: 11 for A, then B, then 12.
+// Both screens are there: `WrongOperation` of A, then of B, then `NoRoomForStream`.
 fn write_screens(
     panel: Panel,
     book: &[u8],
@@ -91,8 +91,7 @@ pub fn write_change(
     ensures value { wrote_all (written_reply result) room.new ≡ change_of panel book.now a b room.old }
     ensures refused { OnErr result (room.new ≡ room.old) }
 {
-    let valid = panel.valid();
-    if !valid {
+    if !panel.valid() {
         return Err(Refusal::Invalid.into());
     }
     ask(book, a)?;

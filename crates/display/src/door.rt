@@ -5,6 +5,7 @@ ghost use Rattle.display.specs.Frame.{lent_lengths};
 
 use state::refusal::Refusal;
 
+// Two tests as flags: what is valid, a state or a display group, and what else is lent, a frame, a row or lists, differ between the callers.
 // Invalid where the state is not valid, then WrongLength where memory, ROM or what else is lent has a wrong length.
 pub(crate) fn admit(valid: bool, mem: &[u8], rom: &[u8], fits: bool) -> Result<(), Refusal>
     ensures { (reply result).number ≡ cond valid (cond (lent_lengths mem.now rom.now && fits) 0 2) 1 }

@@ -11,7 +11,6 @@ ghost use Rattle.state.specs.State.{valid_panel, valid_display};
 use super::door::admit;
 use super::font::font;
 use super::layers::tables;
-use super::row::paint_row;
 use super::scene::Scene;
 use state::panel::Panel;
 use state::refusal::Refusal;
@@ -49,13 +48,9 @@ fn paint_some(
         if *flag == 0 {
             continue;
         }
+        // by its place: behind `chunks_exact_mut` a proof knows nothing of what is written
         let at = i * bytes;
-        paint_row(
-            &scene,
-            first + i,
-            &mut cells[..columns],
-            &mut out[at..at + bytes],
-        );
+        scene.paint_row(first + i, &mut cells[..columns], &mut out[at..at + bytes]);
     }
 }
 

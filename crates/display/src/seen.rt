@@ -5,7 +5,7 @@ ghost use Rattle.display.specs.Layers.{stretch, row_layers_of};
 
 use super::door::admit;
 use super::font::font;
-use super::layers::{lay, tables};
+use super::layers::tables;
 use super::scene::Scene;
 use state::panel::Panel;
 use state::refusal::Refusal;
@@ -40,6 +40,6 @@ pub fn row_layers(
         font: &glyphs,
         shades: &shades,
     };
-    lay(&scene, row, column, text, graphic, shown);
+    scene.lay(row, column, text, graphic, shown);
     Ok(())
 }

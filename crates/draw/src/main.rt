@@ -16,7 +16,8 @@ use report::{finish, has_argument, read_rom, read_whole};
 use state::panel::Panel;
 use std::io::{Print, Result};
 
-// So many parameters: it exists because they are parts of arrays that its caller owns.
+// A function, since planes and frame are parts of arrays that its caller owns; no struct, which would be taken apart at once: `draw`, which
+// docs/PROMISES.md names, takes them one by one.
 // A screen's picture as text, drawn in planes and a frame of its panel's lengths; in the phase that is off where its byte is 0.
 fn print_screen(
     dual: bool,
@@ -76,7 +77,7 @@ fn draw_text(dual: bool, rom: &[u8], input: &[u8], out: &mut [u8]) -> Told
     )
 }
 
-// Its own in each program: the room's length and what is shown differ, and no public function has the `requires` that a closure needs.
+// Its own in each program: what is shown differs, and no public function has the `requires` that a closure needs (docs/PROMISES.md).
 // The text printed: the screen's refusal number. One byte past the limit shows that a book is too long.
 fn show(rt: HostRuntime) -> Result<u8> {
     let mut rom = character_rom();

@@ -28,11 +28,7 @@ pub fn push(pending: &mut Pending, byte: u8)
     ensures { pending.new ≡ pushed pending.old byte }
 {
     *pending = Pending {
-        count: if pending.count < 2 {
-            pending.count + 1
-        } else {
-            2
-        },
+        count: pending.count.min(1) + 1,
         older: pending.newest,
         newest: byte,
     };

@@ -8,8 +8,9 @@ use crate::effect::moved;
 use ground::bytes::with_bit;
 use state::registers::{Bus, Move};
 
-/// The byte at an address; 0 behind the memory's end. All 65,536 are there in a run, and the compiler then drops the test. Tried and slower:
-/// `get` here and `with_auto` in the usual commands took two fifths more for single stores.
+// All 65,536 bytes are there in a run, and the compiler then drops the test. Tried and slower: `get` here and `with_auto` in the usual commands
+// took two fifths more for single stores.
+/// The byte at an address; 0 behind the memory's end.
 pub fn byte_there(memory: &[u8], address: u16) -> u8
     ensures { result ≡ slice_index memory.now address }
 {
@@ -17,6 +18,8 @@ pub fn byte_there(memory: &[u8], address: u16) -> u8
     if at < memory.len() { memory[at] } else { 0 }
 }
 
+// No `get_mut`: behind it a proof knows the memory's length and no byte of it.
+//
 // A byte stored at an address; nothing behind the memory's end.
 fn store_there(memory: &mut [u8], address: u16, byte: u8)
     ensures { memory.new ≡ slice_set memory.old address byte }
@@ -27,6 +30,7 @@ fn store_there(memory: &mut [u8], address: u16, byte: u8)
     }
 }
 
+// Copied, then set, here and below, as in `usual::part`, where `..bus` was slower.
 /// A byte stored where the pointer stands, the pointer moved.
 pub fn put(bus: Bus, memory: &mut [u8], byte: u8, direction: Move) -> Bus
     ensures pointer { result ≡ with_pointer bus (moved_of direction bus.pointer) }

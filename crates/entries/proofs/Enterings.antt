@@ -42,20 +42,20 @@ module _ (list : List ℕ) (ds es : List Difference) {m n : ℕ} (h : m ≡ leng
       ∙ (λ i. cond (ltb (length list) (3 * (h i + k i))) (entered_all (record { bytes = h i; values = k i; listed = false }) list) (entered_all (record { bytes = h i; values = k i; listed = true }) (sets list 0 (numbers_of (ds ++ es)))))
 
   -- thirds of the list for the bytes' entries, and those that are left for the values'
-  module _ {less : ℕ} (e : less ≡ min (length list / 3) m) where
-    pub enters-not : (ltb (length list / 3) m || ltb (length list / 3 - less) n) ≡ true
+  module _ {left : ℕ} (e : left ≡ length list / 3 - m) where
+    pub enters-not : (ltb (length list / 3) m || ltb left n) ≡ true
         → entered_all (record { bytes = m; values = n; listed = false }) list ≡ entered_of list ds es
-    enters-not t = judged true (lt-ltb (length list) (3 * (m + n)) (go (either (ltb (length list / 3) m) (ltb (length list / 3 - less) n) t)))
+    enters-not t = judged true (lt-ltb (length list) (3 * (m + n)) (go (either (ltb (length list / 3) m) (ltb left n) t)))
       where
-        go : (ltb (length list / 3) m ≡ true) ⊎ (ltb (length list / 3 - less) n ≡ true) → length list < 3 * (m + n)
+        go : (ltb (length list / 3) m ≡ true) ⊎ (ltb left n ≡ true) → length list < 3 * (m + n)
         go (inl x) = omega (arith, ltb-true (length list / 3) m x)
-        go (inr x) = omega (arith, ltb-true (length list / 3 - less) n x, e)
+        go (inr x) = omega (arith, ltb-true left n x, e)
 
-    module _ (t : (ltb (length list / 3) m || ltb (length list / 3 - less) n) ≡ false) where
+    module _ (t : (ltb (length list / 3) m || ltb left n) ≡ false) where
       pub enters-room : 3 * (m + n) ≤ length list
       enters-room =
-          let x = neither (ltb (length list / 3) m) (ltb (length list / 3 - less) n) t in
-          omega (arith, ltb-false (length list / 3) m x.0, ltb-false (length list / 3 - less) n x.1, e)
+          let x = neither (ltb (length list / 3) m) (ltb left n) t in
+          omega (arith, ltb-false (length list / 3) m x.0, ltb-false left n x.1, e)
 
       pub enters-all : {l r : List ℕ} → l ≡ sets list 0 (numbers_of ds) → r ≡ sets l (3 * m) (numbers_of es)
           → entered_all (record { bytes = m; values = n; listed = true }) r ≡ entered_of list ds es

@@ -5,6 +5,7 @@ ghost use Rattle.entries.specs.Entered.{entered, entered_all, entered_of};
 
 use super::list::{count_apart, list_apart};
 
+// Three numbers in a list of numbers, here and below: docs/PROMISES.md names `enter`, which takes one.
 /// How many entries the bytes have and how many the values, three numbers of a list each.
 #[derive(Clone, Copy, Debug, PartialEq, Eq)]
 pub struct Entries {
@@ -31,7 +32,7 @@ fn enter_alike(
     let bytes = count_apart(one, two);
     let values = count_apart(a, b);
     let room = list.len() / 3;
-    let left = room - room.min(bytes);
+    let left = room.saturating_sub(bytes);
     let entries = Entries { bytes, values };
     if (room < bytes) | (left < values) {
         return Err(NoRoom(entries));

@@ -42,21 +42,19 @@ pub(crate) fn count_apart<T: Number>(one: &[T], two: &[T]) -> usize
     ensures { result ≡ length (differences_from 0 (map T.value one.now) (map T.value two.now)) }
 {
     let mut count: usize = 0;
+    // by index, here and below: an entry has the place, and the step of a `zip` has no index that the invariant could name
     for (i, x) in one.iter().enumerate() {
         count += differ(x.value(), two[i].value());
     }
     count
 }
 
-// kept as three stores: a part and an array are no plainer
-// Three numbers: where, and both.
+// Three numbers from a place on, and not at the start of `&mut list[at..]`: the contracts speak of the whole list, its rest as it was.
 fn put_entry(list: &mut [usize], at: usize, place: usize, one: usize, two: usize)
     requires { at + 3 ≤ length list.old }
     ensures { list.new ≡ sets list.old at (place ∷ one ∷ two ∷ []) }
 {
-    list[at] = place;
-    list[at + 1] = one;
-    list[at + 2] = two;
+    list[at..at + 3].copy_from_slice(&[place, one, two]);
 }
 
 // An entry for each place where two lists differ, from a place of `list` on.

@@ -21,6 +21,8 @@ pub fn start(flags: &mut [u8])
     flags.fill(1);
 }
 
+// Parameters one by one, and `kind` a number beside `byte`, as docs/PROMISES.md has `access` below, which hands them on.
+//
 // A pair on what is known to be valid; a refused one leaves the flags as they were.
 pub(crate) fn follow(
     registers: &mut Registers,
@@ -52,6 +54,7 @@ pub(crate) fn follow(
     Ok(answer)
 }
 
+// The door is written out, as in `single::step`.
 /// One access of anything that keeps the flags, one of 8 · lines for each dot row: the tests at the door, then the pair. What a read gives is
 /// `Some`, and a read leaves memory and flags. A refused pair changes nothing: `Invalid` panel or registers, then `WrongLength` of memory (65,536), ROM (1,024) or flags, then the
 /// refusals of a pair.

@@ -9,6 +9,7 @@ use state::panel::Panel;
 use state::refusal::Refusal;
 use state::registers::Registers;
 
+// Parameters one by one: docs/PROMISES.md names this, and each is lent by whoever asks.
 /// The rows of `frame` whose flag is not 0 painted, and every flag 0: memory of 65,536 bytes, ROM of 1,024, a frame of the panel's size, 8·L
 /// flags. Invalid, then WrongLength, and a refusal leaves frame and flags as they were.
 pub fn refresh(

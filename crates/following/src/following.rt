@@ -1,4 +1,4 @@
-// What a viewer in C calls: a pair or a log followed, the flagged rows painted.
+// What a viewer in C calls: a pair or a log followed, the flagged rows painted. Bodies beside those of crates/boundary, as is said there.
 ghost use Rattle.std.specs.Prelude.{◌≡◌};
 ghost use Rattle.image.specs.Door.{panel_of};
 ghost use Rattle.following.specs.Following.{follow_end, follow_bytes, follow_run_end, follow_run_bytes, refresh_end, refresh_bytes};
@@ -46,7 +46,8 @@ pub extern "C" fn t6963c_follow(
     }
 }
 
-/// At most `limit` pairs of a log, refused ones skipped and listed, the flags kept: the number. `counts` becomes place, pairs taken, answers, entries.
+/// At most `limit` pairs of a log, refused ones skipped and listed, the flags kept: the number. `counts` becomes place, pairs taken, answers,
+/// pairs listed.
 #[tactic(auto, unfolding(crate::specs::Following::follow_run_bytes))]
 #[unsafe(no_mangle)]
 pub extern "C" fn t6963c_follow_run(

@@ -24,7 +24,7 @@ pub fn with_bit(byte: u8, at: u8, on: bool) -> u8
     ensures { result ≡ with_bit byte at on }
 {
     let mask: u8 = 1 << (at % 8);
-    if on { byte | mask } else { byte & (255 - mask) }
+    if on { byte | mask } else { byte & !mask }
 }
 
 /// The low w bits set, all eight past them.
@@ -44,7 +44,7 @@ pub fn low(width: usize, byte: u8) -> u8
     byte & full(width)
 }
 
-// a function, though it is `min`: docs/PROMISES.md names it
+// a function, though it is `min` and no crate calls it: docs/PROMISES.md names it
 /// The lesser of two numbers.
 pub fn lesser(a: usize, b: usize) -> usize
     ensures { result ≡ min a b }

@@ -55,6 +55,7 @@ fn pack_eights(cells: &[u8], out: &mut [u8])
     out.copy_from_slice(cells);
 }
 
+// A row of cells of 6 or 8 dots.
 fn pack_row(width: usize, cells: &[u8], out: &mut [u8])
     requires packable { Packable width cells.now }
     requires out_len { length out.old ≡ row_bytes (length cells.now) width }
@@ -72,8 +73,7 @@ pub fn pack(width: usize, cells: &[u8], out: &mut [u8])
     ensures { out.new ≡ pack_of width cells.now out.old }
 {
     if ((width == 6) | (width == 8)) & (cells.len() <= 80) {
-        // no `div_ceil`: as the definition `row_bytes` has it
-        let bytes = (cells.len() * width + 7) / 8;
+        let bytes = (cells.len() * width).div_ceil(8);
         if out.len() == bytes {
             pack_row(width, cells, out);
         }

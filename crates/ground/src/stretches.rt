@@ -4,6 +4,7 @@ ghost use Rattle.ground.specs.Lists.{build, given_to, read_round, looked_up};
 
 use super::bytes::low;
 
+// a function, though it is `fill(0)`: docs/PROMISES.md names it
 /// Every byte 0.
 pub fn clear(list: &mut [u8])
     ensures { list.new ≡ build (length list.old) (λ j. 0) }
@@ -24,6 +25,7 @@ pub fn read_round(width: usize, mem: &[u8], start: u16, out: &mut [u8])
     ensures { out.new ≡ read_round width mem.now start out.old }
 {
     if mem.len() == 65536 {
+        // the address by hand: behind `iter_mut().zip(..)` a proof knows nothing of what is written
         let mut at = start;
         for byte in out.iter_mut() {
             *byte = low(width, mem[at as usize]);

@@ -32,21 +32,24 @@ unfolding bytes_of
 bytes-length r = refl
 
 -- the bytes that the code works out, each what it stands for
-pub bytes-are : (r : Registers) {combination external graphic text cursor blink auto error phase : ℕ}
+pub bytes-are : (r : Registers) {pointer_low pointer_high text_low text_high graphic_low graphic_high combination external graphic text cursor blink auto error phase : ℕ}
+    → pointer_low ≡ r.bus.pointer % 256 → pointer_high ≡ r.bus.pointer / 256
+    → text_low ≡ r.display.text.home % 256 → text_high ≡ r.display.text.home / 256
+    → graphic_low ≡ r.display.graphic.home % 256 → graphic_high ≡ r.display.graphic.home / 256
     → combination ≡ combination_byte r.display.combination → external ≡ flag_byte r.display.external
     → graphic ≡ flag_byte r.display.bits.graphic → text ≡ flag_byte r.display.bits.text
     → cursor ≡ flag_byte r.display.bits.cursor → blink ≡ flag_byte r.display.bits.blink
     → auto ≡ auto_byte r.bus.auto → error ≡ flag_byte r.bus.error → phase ≡ flag_byte r.display.phase
-    → (r.display.cursor.x ∷ r.display.cursor.y ∷ r.display.offset ∷ r.bus.pointer % 256 ∷ r.bus.pointer / 256
-    ∷ r.display.text.home % 256 ∷ r.display.text.home / 256 ∷ r.display.graphic.home % 256 ∷ r.display.graphic.home / 256
+    → (r.display.cursor.x ∷ r.display.cursor.y ∷ r.display.offset ∷ pointer_low ∷ pointer_high
+    ∷ text_low ∷ text_high ∷ graphic_low ∷ graphic_high
     ∷ r.display.text.area ∷ r.display.graphic.area ∷ combination ∷ external ∷ graphic ∷ text ∷ cursor ∷ blink
     ∷ r.display.cursor.height ∷ auto ∷ r.bus.pending.count ∷ r.bus.pending.older ∷ r.bus.pending.newest
     ∷ r.bus.latch ∷ error ∷ phase ∷ [])
     ≡ bytes_of r
 unfolding bytes_of
-bytes-are r a b c d e f g h i =
-    λ t. r.display.cursor.x ∷ r.display.cursor.y ∷ r.display.offset ∷ r.bus.pointer % 256 ∷ r.bus.pointer / 256
-    ∷ r.display.text.home % 256 ∷ r.display.text.home / 256 ∷ r.display.graphic.home % 256 ∷ r.display.graphic.home / 256
+bytes-are r pl ph tl th gl gh a b c d e f g h i =
+    λ t. r.display.cursor.x ∷ r.display.cursor.y ∷ r.display.offset ∷ pl t ∷ ph t
+    ∷ tl t ∷ th t ∷ gl t ∷ gh t
     ∷ r.display.text.area ∷ r.display.graphic.area ∷ a t ∷ b t ∷ c t ∷ d t ∷ e t ∷ f t
     ∷ r.display.cursor.height ∷ g t ∷ r.bus.pending.count ∷ r.bus.pending.older ∷ r.bus.pending.newest
     ∷ r.bus.latch ∷ h t ∷ i t ∷ []

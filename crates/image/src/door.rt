@@ -20,6 +20,7 @@ pub fn marked(columns: usize, lines: usize, width: usize, dual: u8) -> Panel
     }
 }
 
+// `lent` as a flag: docs/PROMISES.md names this, and callers differ in what else has a fixed length: two, three or four counts, or nothing.
 /// The registers that stand in a buffer of 25 bytes. `lent` says whether the other buffers whose length is fixed here have it; that is asked
 /// last. Invalid for a panel, or WrongLength for a buffer of another length; then Invalid for bytes that are no registers, or no valid ones,
 /// then WrongLength for what is lent.
@@ -55,7 +56,8 @@ fn untouched(number: u8) -> bool
     )
 }
 
-/// The registers written back over 25 bytes, unless the number says that nothing was touched (1 or 2); a buffer of another length stays.
+/// The registers written back over 25 bytes, unless the number, Invalid's or WrongLength's, says that nothing was touched; a buffer of another
+/// length stays.
 pub fn keep(number: u8, registers: Registers, bytes: &mut [u8])
     ensures { bytes.new ≡ kept_of number registers bytes.old }
 {
@@ -78,7 +80,8 @@ fn write_over(number: u8, new: &[usize], counts: &mut [usize])
     counts.copy_from_slice(new);
 }
 
-/// A run's three counts, unless the number says that nothing was touched (1 or 2); a buffer for another count of them stays.
+// One by one, here and below: `Ran`, which holds them, is controller's, and this crate stands below that one.
+/// A run's three counts, unless the number says that nothing was touched; a buffer for another count of them stays.
 pub fn count(number: u8, place: usize, taken: usize, answers: usize, counts: &mut [usize])
     ensures { counts.new ≡ counts_of number place taken answers counts.old }
 {

@@ -7,34 +7,35 @@ use state::registers::{
     Auto, Bus, Combination, Cursor, Display, DisplayBits, Pending, Plane, Registers,
 };
 
+// The registers as C has them, words low byte first.
 fn image(registers: Registers) -> [u8; 25]
     ensures { result ≡ bytes_of registers }
 {
     let display = registers.display;
     let bus = registers.bus;
     let bits = display.bits;
-    let mode = display.combination;
-    let combination = u8::from(mode);
+    let combination = u8::from(display.combination);
     let external = u8::from(display.external);
     let graphic = u8::from(bits.graphic);
     let text = u8::from(bits.text);
     let cursor = u8::from(bits.cursor);
     let blink = u8::from(bits.blink);
-    let running = bus.auto;
-    let auto = u8::from(running);
+    let auto = u8::from(bus.auto);
     let error = u8::from(bus.error);
     let phase = u8::from(display.phase);
+    let [pointer_low, pointer_high] = bus.pointer.to_le_bytes();
+    let [text_low, text_high] = display.text.home.to_le_bytes();
+    let [graphic_low, graphic_high] = display.graphic.home.to_le_bytes();
     [
         display.cursor.x,
         display.cursor.y,
         display.offset,
-        // low and high byte by `%` and `/`, here and below, as the definition `bytes_of` has them
-        (bus.pointer % 256) as u8,
-        (bus.pointer / 256) as u8,
-        (display.text.home % 256) as u8,
-        (display.text.home / 256) as u8,
-        (display.graphic.home % 256) as u8,
-        (display.graphic.home / 256) as u8,
+        pointer_low,
+        pointer_high,
+        text_low,
+        text_high,
+        graphic_low,
+        graphic_high,
         display.text.area,
         display.graphic.area,
         combination,
@@ -63,8 +64,8 @@ pub fn encode(registers: Registers, out: &mut [u8])
     }
 }
 
-/// Whether there are 25 bytes, and each that stands for a flag, a combination or an auto mode is one.
 // kept test by test: each byte has a bound of its own, as in the definition
+/// Whether there are 25 bytes, and each that stands for a flag, a combination or an auto mode is one.
 pub fn is_readable(bytes: &[u8]) -> bool
     ensures { result ≡ is_image bytes.now }
 {

@@ -4,7 +4,7 @@ ghost use Rattle.image.specs.Registered.{bits_number, pending_number, register_v
 
 use state::registers::{DisplayBits, Pending, Registers};
 
-// kept, and the next: both types are of other crates, so that no From can stand here
+// Functions, this and the next: `usize::from(bits)` would not say which bit is worth what, and these numbers are of this list alone.
 fn bits_number(bits: DisplayBits) -> usize
     ensures { result ≡ bits_number bits }
 {
@@ -21,21 +21,17 @@ fn pending_number(pending: Pending) -> usize
     pending.count as usize + 256 * (pending.older as usize) + 65536 * (pending.newest as usize)
 }
 
-/// The seventeen registers in document 01's order.
+/// The seventeen registers, in the order of their names in docs/FORMATS.md.
 pub fn register_values(registers: Registers) -> [usize; 17]
     ensures { result ≡ register_values registers }
 {
     let display = registers.display;
     let bus = registers.bus;
-    let mode = display.combination;
-    let combination = usize::from(u8::from(mode));
+    let combination = usize::from(u8::from(display.combination));
     let external = usize::from(display.external);
-    let shown = display.bits;
-    let bits = bits_number(shown);
-    let running = bus.auto;
-    let auto = usize::from(u8::from(running));
-    let waiting = bus.pending;
-    let pending = pending_number(waiting);
+    let bits = bits_number(display.bits);
+    let auto = usize::from(u8::from(bus.auto));
+    let pending = pending_number(bus.pending);
     let error = usize::from(bus.error);
     let phase = usize::from(display.phase);
     [

@@ -13,10 +13,10 @@ use state::refusal::Refused;
 use state::registers::Registers;
 use std::io::{Print, Result};
 
-fn put_named(out: &impl Print, word: &str, named: Option<usize>) -> Result<()> {
+fn put_named(out: &impl Print, what: &str, named: Option<usize>) -> Result<()> {
     match named {
-        Some(n) => println!(out; "{word} {n}"),
-        None => println!(out; "{word} none"),
+        Some(n) => println!(out; "{what} {n}"),
+        None => println!(out; "{what} none"),
     }
 }
 
@@ -28,6 +28,7 @@ fn put_findings(out: &impl Print, found: Findings) -> Result<()> {
     unasked.and(wrong).and(verdict)
 }
 
+// The length by `word`, as there is no book here, of which contents' `word_at` reads.
 // Behind the panel three bytes, low byte first, say how long the log is; the recorded answers are the rest.
 fn inspect_input(dual: bool, rom: &[u8], input: &[u8]) -> std::result::Result<Findings, Refused> {
     let panel = panel_in(input, dual);

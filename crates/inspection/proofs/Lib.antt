@@ -1,3 +1,4 @@
 pub mod Watches
 pub mod Owns
 pub mod Firsts
+pub mod PairsPlace

@@ -24,6 +24,12 @@ use Rattle.controller.proofs.Runs.{pairs-length}
 use Rattle.single.specs.Outcome.{outcome, entered_of}
 use Rattle.state.specs.Refusals.{number_of}
 use Rattle.state.specs.declared.refusal.Refusal.{Refusal}
+use Rattle.state.proofs.RefusalNumbers.{not_zero, same_number}
+use Rattle.std.proofs.Common.{Option, Result}
+use mathlib.Core.Bool.{true≢false}
+use Rattle.state.specs.declared.refusal.Refused.{Refused}
+use Rattle.inspection.specs.declared.look.Findings.{Findings}
+use Rattle.inspection.specs.Named.{Named, At, Nothing, is_nothing, named_by, inspected}
 use Rattle.inspection.specs.Types.{Panel, Registers, Looked, Inspected}
 use Rattle.inspection.specs.Look.{look_asked, look_answered, unseen, Watched, watch_by, watch_step}
 use Rattle.inspection.specs.Inspected.{InspectedAll, inspected_all, unnamed, named, inspected_of, begun_watch, inspect_of}
@@ -152,3 +158,32 @@ pub inspect-settled : {x y : Inspected} {m n : List ℕ} (p : Panel) (r : Regist
     → inspected_all x m ≡ inspect_of p r mem rom log recorded → inspected_all y n ≡ inspect_of p r mem rom log recorded → (x ≡ y) × (m ≡ n)
 inspect-settled p r mem rom log recorded h k =
     let e = settled h k in (ap (λ (o : InspectedAll). o.inspected) e, ap (λ (o : InspectedAll). o.memory) e)
+
+abbrev place_in : Named → ℕ
+place_in (At n) = n
+place_in Nothing = 0
+
+same_named : (a b : Option ℕ) → named_by a ≡ named_by b → a ≡ b
+same_named None None h = refl
+same_named (Some m) (Some n) h = ap Some (ap place_in h)
+same_named None (Some n) h = absurd (true≢false (ap is_nothing h))
+same_named (Some m) None h = absurd (true≢false (ap is_nothing (sym h)))
+
+same_inspected : (x y : Result Findings Refused) (r s : Registers) → inspected x r ≡ inspected y s → (x ≡ y) × (r ≡ s)
+same_inspected (Ok f) (Ok g) r s h =
+    let a = same_named f.unasked g.unasked (ap (λ (o : Inspected). o.unasked) h) in
+    let b = same_named f.wrong g.wrong (ap (λ (o : Inspected). o.wrong) h) in
+    ((λ i. Ok (record { unasked = a i; wrong = b i })), ap (λ (o : Inspected). o.registers) h)
+same_inspected (Ok f) (Err e) r s h = absurd (not_zero e.refusal (ap (λ (o : Inspected). o.number) (sym h)))
+same_inspected (Err d) (Ok g) r s h = absurd (not_zero d.refusal (ap (λ (o : Inspected). o.number) h))
+same_inspected (Err d) (Err e) r s h =
+    let n = same_number d.refusal e.refusal (ap (λ (o : Inspected). o.number) h) in
+    let p = ap (λ (o : Inspected). o.place) h in
+    ((λ i. Err (record { refusal = n i; place = p i })), ap (λ (o : Inspected). o.registers) h)
+
+-- and so are the results that stand for them, and the registers
+pub inspect-result-settled : {x y : Result Findings Refused} {r₁ r₂ : Registers} {m n : List ℕ} (p : Panel) (r : Registers) (mem rom log recorded : List ℕ)
+    → inspected_all (inspected x r₁) m ≡ inspect_of p r mem rom log recorded → inspected_all (inspected y r₂) n ≡ inspect_of p r mem rom log recorded
+    → ((x ≡ y) × (r₁ ≡ r₂)) × (m ≡ n)
+inspect-result-settled {x} {y} {r₁} {r₂} p r mem rom log recorded h k =
+    let s = inspect-settled p r mem rom log recorded h k in (same_inspected x y r₁ r₂ s.0, s.1)

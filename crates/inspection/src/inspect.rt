@@ -12,6 +12,7 @@ use state::panel::Panel;
 use state::refusal::{Refusal, Refused};
 use state::registers::Registers;
 
+// What is lent comes one by one, here and below: docs/PROMISES.md names `inspect`, and `follow` is what it does past its door.
 // All pairs of a log, on a machine that is known to be valid.
 fn follow(
     registers: &mut Registers,
@@ -25,16 +26,15 @@ fn follow(
     requires log_len { length log.now % 2 ≡ 0 }
     ensures { inspected_all (inspected result registers.new) memory.new ≡ inspected_of recorded.now (run_from (watch_step panel rom.now recorded.now) 0 (pairs_of log.now) (begun_watch registers.old memory.old)) }
 {
-    let mut seen = Looked::nothing();
+    let mut seen = Looked::default();
     let mut given: usize = 0;
     let (pairs, _) = log.as_chunks::<2>();
     for (i, pair) in pairs.iter().enumerate() {
         let [kind, byte] = *pair;
         let auto = registers.bus.auto;
-        let own = match step::access(registers, panel, memory, rom, kind, byte) {
-            Ok(own) => own,
-            Err(refusal) => return Err(Refused { refusal, place: i }),
-        };
+        let own = step::access(registers, panel, memory, rom, kind, byte).map_err(
+            |refusal| Refused { refusal, place: i },
+        )?;
         let answer = recorded.get(given).copied().unwrap_or(0);
         seen.look(auto, kind, answer, i);
         if let Some(byte) = own {
@@ -48,6 +48,7 @@ fn follow(
     Err(Refusal::AnswersUneven.into())
 }
 
+// The two tests at the head stand here: a function for all entries would take them as flags.
 /// A log of pairs, two bytes each, and the bytes answered beside it. Registers and memory (65,536) end as the run leaves them that stops at the
 /// first refused pair, on a refusal too. Refusals: `Invalid`, `WrongLength`, `OddLength` with the pairs of the log; then that of a pair, with the
 /// pair; then `AnswersUneven` where recorded answers and reads are not equally many.

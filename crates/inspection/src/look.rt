@@ -1,6 +1,6 @@
 // What is seen of a log, pair by pair.
 ghost use Rattle.std.specs.Prelude.{◌≡◌, true, not, ◌&&◌};
-ghost use Rattle.inspection.specs.Look.{ready_for, needs_asking, unseen, look_asked, look_answered};
+ghost use Rattle.inspection.specs.Look.{ready_for, needs_asking, look_asked, look_answered};
 ghost use Rattle.inspection.specs.Named.{named_by, looked, is_nothing};
 
 use codes::pair::Kind;
@@ -10,7 +10,7 @@ use state::registers::Auto;
 
 /// What an inspection names: the first pair that needed a ready status and had none, and the first recorded answer that is not the controller's
 /// own, by its index among the answers. `None` where there is none.
-#[derive(Clone, Copy, Debug, PartialEq, Eq)]
+#[derive(Clone, Copy, Debug, Default, PartialEq, Eq)]
 pub struct Findings {
     pub unasked: Option<usize>,
     pub wrong: Option<usize>,
@@ -26,12 +26,13 @@ impl Findings {
 }
 
 /// Whether a ready status was read since the last pair that needed one, and what is named so far.
-#[derive(Clone, Copy, Debug, PartialEq, Eq)]
+#[derive(Clone, Copy, Debug, Default, PartialEq, Eq)]
 pub struct Looked {
     pub asked: bool,
     pub named: Findings,
 }
 
+// Whether a status answer says that the next access may come, by bits 0 and 1 or in auto by its own.
 fn is_ready(auto: Auto, answer: u8) -> bool
     ensures { result ≡ ready_for auto answer }
 {
@@ -42,6 +43,7 @@ fn is_ready(auto: Auto, answer: u8) -> bool
     }
 }
 
+// Whether a pair needs a ready status before it: by its number, as the log has it, which need be no kind's.
 fn needs(auto: Auto, kind: u8) -> bool
     ensures { result ≡ needs_asking auto kind }
 {
@@ -53,24 +55,12 @@ fn needs(auto: Auto, kind: u8) -> bool
 }
 
 impl Looked {
-    pub(crate) fn nothing() -> Looked
-        ensures { looked result ≡ unseen }
-    {
-        Looked {
-            asked: false,
-            named: Findings {
-                unasked: None,
-                wrong: None,
-            },
-        }
-    }
-
     // An accepted pair, by the auto mode before it.
     pub(crate) fn look(&mut self, auto: Auto, kind: u8, recorded: u8, place: usize)
         ensures { looked self.new ≡ look_asked auto kind recorded place (looked self.old) }
     {
         let needed = needs(auto, kind);
-        let served = (kind == Kind::Status as u8) & is_ready(auto, recorded);
+        let served = matches!(Kind::try_from(kind), Ok(Kind::Status)) & is_ready(auto, recorded);
         let unasked = (needed & !self.asked).then_some(place);
         self.named.unasked = self.named.unasked.or(unasked);
         self.asked = !needed & (self.asked | served);

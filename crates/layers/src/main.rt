@@ -1,5 +1,5 @@
 // The layers program: a panel, a cell and a log from standard input; text, graphic and what comes of them to standard output. Started with
-// an argument it takes the character ROM before them.
+// an argument it takes the character ROM before them, with two the panel is in two halves.
 #![tactic(auto)]
 
 ghost use Rattle.std.specs.Prelude.{◌≤◌};
@@ -90,6 +90,7 @@ impl Picture<'_> {
         let mut text = [0u8; CELLS];
         let mut graphic = [0u8; CELLS];
         let mut shown = [0u8; CELLS];
+        // never refused: the run was neither `Invalid` nor `OddLength`, and all lengths are right
         let _ = row_layers(
             self.panel,
             self.display,
@@ -109,9 +110,9 @@ impl Picture<'_> {
         put_cells(rt, self.panel.width, &seen[..few])
     }
 
-    // A layer of the cell, or of every row.
-    fn put(&self, rt: HostRuntime, layer: Layer, row: usize, column: usize) -> Result<()> {
-        if column != WHOLE {
+    // A layer of the row's cell at a column, or of every row.
+    fn put(&self, rt: HostRuntime, layer: Layer, row: usize, column: Option<usize>) -> Result<()> {
+        if let Some(column) = column {
             let name = print!(rt; "{layer} ");
             return name.and(self.put_layer(rt, layer, row, column, 1));
         }
@@ -123,11 +124,13 @@ impl Picture<'_> {
     }
 }
 
-// The run's line, as the log program has it, then the layers; on refusals 1 and 8 the line only.
+// The run stands here and in the xbm program: a function would take the memory and the answers lent, and be this one call.
+// The run's line, as the log program has it, then the layers; on `Invalid` and `OddLength` the line only.
 fn show(rt: HostRuntime, rom: &[u8], input: &[u8]) -> Result<u8> {
     let panel = panel_in(input, has_argument(&rt, 2));
     let row = byte_in(input, 3) as usize;
-    let column = byte_in(input, 4) as usize;
+    let asked = byte_in(input, 4) as usize;
+    let column = if asked == WHOLE { None } else { Some(asked) };
     let log = rest_in(input, 5);
     let mut memory = empty_memory();
     let mut answers = [0u8; 8192];
@@ -157,7 +160,7 @@ fn show(rt: HostRuntime, rom: &[u8], input: &[u8]) -> Result<u8> {
     written.and(Ok(ran.number))
 }
 
-// Its own in each program: the room's length and what is shown differ, and no public function has the `requires` that a closure needs.
+// Its own in each program: what is shown differs, and no public function has the `requires` that a closure needs (docs/PROMISES.md).
 // A log run and its layers shown: the run's refusal number.
 fn layers(rt: HostRuntime) -> Result<u8> {
     let mut rom = character_rom();

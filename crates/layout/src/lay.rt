@@ -17,6 +17,7 @@ pub(crate) fn laid_size(two: bool, spans: &[Span]) -> usize
     ensures { result ≡ laid_size two (bodies spans.now) }
 {
     let mut size = first_body(two, spans.len() as u8);
+    // here and below no method of `Span`: it would be a public function of contents for one subtraction
     for span in spans {
         size += span.end - span.start;
     }

@@ -14,6 +14,7 @@ use contents::spans::Span;
 use state::panel::Panel;
 use state::refusal::{Refusal, Refused};
 
+// The form as a `bool`, as `lay` takes it.
 // The book laid out where the output has room for it, else `NoRoomForStream` with the bytes needed.
 pub(crate) fn fit(two: bool, spans: &[Span], book: &[u8], out: &mut [u8]) -> Result<usize, Refused>
     requires { (Spanned (bodies spans.now) (length book.now)) × (laid_size two (bodies spans.now) ≤ 32768) }
@@ -71,6 +72,7 @@ pub fn move_up(panel: Panel, book: &[u8], out: &mut [u8]) -> Result<usize, Refus
     if !panel.valid() {
         return Err(Refusal::Invalid.into());
     }
+    // the definition's `is_two`, here and below: a function would say this one test by another name
     if byte_at(book, 0) == 0 {
         return Err(Refusal::WrongBook.into());
     }

@@ -19,17 +19,19 @@ fn is_and(placed: Placed) -> bool
     matches!(placed, Placed::Combine(Combination::And))
 }
 
+// Start and end and no `Span`, of which the walk would read these two alone, each by a longer name.
 // Whether a body uses AND, or `WrongOperation` with the byte of its first faulty operation.
 fn read_body(panel: Panel, book: &[u8], start: usize, end: usize) -> Result<bool, Refused>
     ensures { result ≡ reads_one (body_read (operations_from (end - start) panel book.now start end)) }
 {
     let mut at = start;
     let mut uses = false;
+    // no iterator of operations: it would yield Results, tested in each round as here, and save the round's last line alone
     while let Some(standing) = read(panel, book, at, end).map_err(|refusal| Refused {
         refusal,
         place: at,
     })? {
-        uses = uses | is_and(standing.placed);
+        uses |= is_and(standing.placed);
         at = standing.next;
     }
     Ok(uses)
@@ -42,10 +44,9 @@ pub(crate) fn read_bodies(panel: Panel, book: &[u8], spans: &[Span]) -> Result<(
     let mut first = None;
     for (screen, span) in spans.iter().enumerate() {
         let uses = read_body(panel, book, span.start, span.end)?;
-        if !uses {
-            continue;
+        if uses {
+            first = first.or(Some(screen));
         }
-        first = first.or(Some(screen));
     }
     match first {
         Some(place) => Err(Refused {

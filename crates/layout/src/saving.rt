@@ -23,17 +23,20 @@ struct Torn {
     screens: [Saved; 64],
 }
 
+// Start and end and no `Span`, of which the walk would read these two alone, each by a longer name.
 // The byte behind a body's good operations: everything behind the first bad one is dropped, read or not.
 fn good_end(panel: Panel, book: &[u8], start: usize, end: usize) -> usize
     ensures { result ≡ good_until (end - start) panel book.now start end }
 {
     let mut at = start;
+    // no iterator of operations: it would yield Results, tested in each round as here, and save the round's last line alone
     while let Ok(Some(standing)) = read(panel, book, at, end) {
         at = standing.next;
     }
     at
 }
 
+// Every screen's span with the end of its good operations, and the bytes on either side of it.
 fn cut(panel: Panel, book: &[u8], spans: &[Span]) -> Torn
     requires { Spanned (bodies spans.now) (length book.now) }
     ensures spans { bodies (take (length spans.now) result.spans) ≡ cut_all panel book.now (bodies spans.now) }
@@ -45,6 +48,7 @@ fn cut(panel: Panel, book: &[u8], spans: &[Span]) -> Torn
         kept: 0,
         dropped: 0,
     }; 64];
+    // by index: behind a `zip` of two `iter_mut` a proof knows nothing of what is written
     for (i, span) in spans.iter().enumerate() {
         let good = good_end(panel, book, span.start, span.end);
         cut[i] = Span { end: good, ..*span };

@@ -1,5 +1,5 @@
 // The list program: a character ROM, a panel and a log of any length from standard input; to standard output a line for each pair: its place,
-// kind, byte and refusal number, and what it was in words.
+// kind, byte and refusal number, and what it was in words. With an argument the panel is in two halves.
 #![tactic(auto)]
 
 use naming::pair::Words;
@@ -21,6 +21,7 @@ const PARTS: u64 = 4294967296;
 // What became of the log so far: its first refusal, where there was one.
 type Outcome = std::result::Result<(), Refusal>;
 
+// Replay's has no registers, which stand in its `Ran`.
 // What the log runs on.
 #[derive(Drop)]
 struct Machine<'a> {
@@ -42,7 +43,7 @@ impl Machine<'_> {
         for (i, pair) in part.chunks_exact(2).enumerate() {
             let kind = pair[0];
             let byte = pair[1];
-            let access = access(
+            let done = access(
                 &mut self.registers,
                 self.panel,
                 self.memory,
@@ -54,10 +55,11 @@ impl Machine<'_> {
                 kind,
                 byte,
                 registers: self.registers,
-                access,
+                access: done,
             };
+            // modulo 2^64, which no log reaches
             let place = from.wrapping_add(i);
-            let outcome = access.map(|_| ());
+            let outcome = done.map(|_| ());
             writeln!(out, "{place} {kind} {byte:02X} {} {words}", number(outcome))?;
             first = first.and(outcome);
         }
@@ -69,13 +71,13 @@ impl Machine<'_> {
         let mut room = [0u8; 131072];
         let mut out = Cursor::new(&mut room[..]);
         let first = self.list_pairs(part, from, &mut out);
-        let end = (out.position() as usize).min(131072);
+        let end = (out.position() as usize).min(room.len());
         Print::write_all(&rt, &room[..end])?;
         first
     }
 
-    // Part after part; the last one is shorter than the others. The refusal of the whole log: 8 where its length is odd, else the first
-    // refused pair's.
+    // A loop of its own in each program that reads parts: no public function has the `requires` that a closure needs.
+    // Part after part; the last one is shorter than the others. The refusal of the whole log: `OddLength`, else the first refused pair's.
     fn list_all(&mut self, rt: HostRuntime) -> Result<Outcome> {
         let mut first = Ok(());
         let mut from: usize = 0;
@@ -89,13 +91,14 @@ impl Machine<'_> {
             if count < PART {
                 return Ok(first);
             }
+            // modulo 2^64, which no log reaches
             from = from.wrapping_add(PART / 2);
         }
         Err(Error::from(ErrorKind::FileTooLarge))
     }
 }
 
-// The log listed, and its refusal number; 1 where the panel is not valid.
+// The log listed, and its refusal number; `Invalid` is the panel's.
 fn list(rt: HostRuntime) -> Result<u8> {
     let mut rom = [0u8; 1024];
     rt.stdin().read_exact(&mut rom)?;

@@ -1,5 +1,5 @@
 // The list_writers program: a character ROM, a panel, a first and a last address and a log of any length from standard input; to standard
-// output a line for each store into that stretch, then how many, then the refusal.
+// output a line for each store into that stretch, then how many, then the refusal. With an argument the panel is in two halves.
 #![tactic(auto)]
 
 use ground::bytes::word;
@@ -17,7 +17,8 @@ const PART: usize = 1024;
 
 const PARTS: u64 = 4294967296;
 
-// A list of stores has four numbers for each: its pair, its address, the byte before and the byte after.
+// A flat list, as `writers::list::list`, which docs/PROMISES.md names, fills it: of each store its pair, its address, the byte before and the
+// byte after.
 const ENTRY: usize = 4;
 
 // The stores listed, and the refusal at which the list ends.
@@ -32,6 +33,7 @@ fn put_lines(rt: HostRuntime, entries: &[usize], past: usize) -> Result<()> {
     let mut room = [0u8; 65536];
     let mut out = Cursor::new(&mut room[..]);
     for entry in entries.chunks_exact(ENTRY) {
+        // modulo 2^64, which no log reaches
         let pair = past.wrapping_add(entry[0]);
         let address = entry[1];
         let before = entry[2];
@@ -41,17 +43,18 @@ fn put_lines(rt: HostRuntime, entries: &[usize], past: usize) -> Result<()> {
             "pair {pair} address {address:04X} before {before:02X} after {after:02X}"
         )?;
     }
-    let end = (out.position() as usize).min(65536);
+    let end = (out.position() as usize).min(room.len());
     Print::write_all(&rt, &room[..end])
 }
 
 fn put_entries(rt: HostRuntime, entries: &[usize], past: usize) -> Result<()> {
-    for some in entries.chunks(1024 * ENTRY) {
-        put_lines(rt, some, past)?;
+    for stores in entries.chunks(1024 * ENTRY) {
+        put_lines(rt, stores, past)?;
     }
     Ok(())
 }
 
+// A loop of its own in each program that reads parts: no public function has the `requires` that a closure needs.
 // The log listed part after part, from reset, each into a room that holds 80 stores for each of its pairs; the last part is shorter than the
 // others. Where the whole log's length is odd its whole pairs are the place.
 fn list_all(rt: HostRuntime, panel: Panel, rom: &[u8], first: u16, last: u16) -> Result<Told> {
@@ -77,6 +80,7 @@ fn list_all(rt: HostRuntime, panel: Panel, rom: &[u8], first: u16, last: u16) ->
         let end = room.len().min(listed.count.saturating_mul(ENTRY));
         put_entries(rt, &room[..end], past)?;
         registers = listed.registers;
+        // both sums modulo 2^64, which no log reaches
         stores = stores.wrapping_add(listed.count);
         past = past.wrapping_add(pairs);
         if let Err(refused) = listed.end {

@@ -14,6 +14,7 @@ use printed::input::{panel_in, rest_in, start_in};
 use printed::parts::{print_answers, print_line, print_rows};
 use printed::told::Told;
 use state::panel::Panel;
+use state::refusal::Refusal;
 use state::registers::Registers;
 
 // The log out of the input.
@@ -38,7 +39,8 @@ fn put_line(ran: Ran, out: &mut [u8]) -> usize
     )
 }
 
-// What a run came to; on refusals 1 and 8, which `text_of` has by these numbers, the first line only.
+// The room is cut here: lent to a function it would be cut again, for the rows.
+// What a run came to; on `Invalid` and `OddLength` the first line only.
 fn put_ran(
     panel: Panel,
     ran: Ran,
@@ -52,18 +54,22 @@ fn put_ran(
     ensures upper_bound { result ≤ 196608 }
 {
     let line = put_line(ran, out);
-    if (ran.number == 1) | (ran.number == 8) {
+    // by number, as the run has it
+    let invalid = ran.number == Refusal::Invalid.number();
+    let odd = ran.number == Refusal::OddLength.number();
+    if invalid | odd {
         return line;
     }
     let next = line + print_answers(ran.answers, answers, &mut out[line..]);
     let size = panel.frame_size();
     let mut room = [0u8; 20480];
     let frame = &mut room[..size];
+    // never refused: the run was neither `Invalid` nor `OddLength`, and all lengths are right
     let _ = paint(panel, ran.registers, memory, rom, frame);
     next + print_rows(panel, frame, &mut out[next..])
 }
 
-// The run of the input's log, from reset on fresh rooms.
+// The run of the input's log, from reset on fresh rooms. Layers and xbm make this one call themselves, with a panel of either kind.
 fn run_log(input: &[u8], memory: &mut [u8], rom: &[u8], answers: &mut [u8]) -> Ran
     requires { (memory.old ≡ zeros 65536) × (rom.now ≡ characters) × (answers.old ≡ zeros 8192) }
     ensures { ran_all result memory.new answers.new ≡ ran_in input.now }
@@ -74,25 +80,25 @@ fn run_log(input: &[u8], memory: &mut [u8], rom: &[u8], answers: &mut [u8]) -> R
     run_stopping(panel, registers, memory, rom, log, log.len() / 2, answers)
 }
 
-// The whole text at the start of `out`, its length and the run's number; 0 and 2 where the room has another length than 196,608.
+/// The whole text at the start of `out`, its length and the run's number; nothing and that of `WrongLength` where the room has another length
+/// than 196,608.
 pub fn print(input: &[u8], out: &mut [u8]) -> Told
     ensures { reported result out.new ≡ print_of input.now out.old }
 {
-    if out.len() == 196608 {
-        let mut memory = empty_memory();
-        let rom = character_rom();
-        let mut answers = zeroed::<8192>();
-        let ran = run_log(input, &mut memory, &rom, &mut answers);
-        let panel = panel_in(input, false);
-        let count = put_ran(panel, ran, &memory, &rom, &answers, out);
-        Told {
-            count,
-            number: ran.number,
-        }
-    } else {
-        Told {
+    if out.len() != 196608 {
+        return Told {
             count: 0,
-            number: 2,
-        }
+            number: Refusal::WrongLength.number(),
+        };
+    }
+    let mut memory = empty_memory();
+    let rom = character_rom();
+    let mut answers = zeroed::<8192>();
+    let ran = run_log(input, &mut memory, &rom, &mut answers);
+    let panel = panel_in(input, false);
+    let count = put_ran(panel, ran, &memory, &rom, &answers, out);
+    Told {
+        count,
+        number: ran.number,
     }
 }

@@ -3,6 +3,7 @@ ghost use Rattle.std.specs.Prelude.{◌≡◌};
 ghost use Rattle.ground.specs.Lists.{build};
 ghost use Rattle.mirror.specs.Order.{mirrored};
 
+// A table and no `u8::reverse_bits`: docs/FORMS.md has it among the forms, with the rule proved once over its entries.
 // 256 numbers, each its index mirrored.
 const MIRRORED: [u8; 256] = [
     0, 128, 64, 192, 32, 160, 96, 224, 16, 144, 80, 208, 48, 176, 112, 240, 8, 136, 72, 200, 40,

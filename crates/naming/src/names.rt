@@ -1,6 +1,8 @@
 // The names of what a command speaks of.
 use state::registers::{Auto, Combination, Move, Target};
 
+// Functions, and no `Display` in crate state, here and below: `+1` or `off` is the word of this crate's lines alone (docs/FORMATS.md). The four
+// names of a combination stand in screens too, which does not rest on this: a `Display` would make a line's words part of the lowest crate.
 /// What two data set.
 pub(crate) fn target_name(target: Target) -> &'static str {
     match target {

@@ -7,6 +7,8 @@ use super::note::Notes;
 use codes::pair::Kind;
 use turns::block::block;
 
+// Log and places, here and below, as `turns::block::block` takes them, which stores the data that are not listed.
+//
 // At most n data, all in the stretch and with room for their entries, stored and entered: how many. No test in it but the kind.
 fn fill(
     notes: &mut Notes,
@@ -23,8 +25,10 @@ fn fill(
     ensures stays { Stays notes.old notes.new }
 {
     let at = start as usize;
+    // over numbers: pair and address stand in the entry, so `enumerate` over a part of memory would leave both sums
     for k in 0..n {
         let i = from + k;
+        // by number: `Kind::try_from(log[2 * i]) != Ok(Kind::Data)` says no more
         if log[2 * i] != Kind::Data as u8 {
             return k;
         }
@@ -51,7 +55,7 @@ fn lay_alike(
     ensures stays { Stays notes.old notes.new }
 {
     let inside = notes.stretch.holds(at);
-    let near = left.min(notes.stretch.span(at, inside));
+    let near = left.min(notes.stretch.span(at));
     let room = notes.list.len() / 4;
     if inside & (notes.count < room) {
         let n = fill(notes, memory, at, log, from, near.min(room - notes.count));
@@ -65,7 +69,6 @@ fn lay_alike(
     n
 }
 
-// Log and places as `turns::block::block` takes them, which stores the data that are not listed.
 /// The data from a place on, up to `total`, as far as they lie alike: how many; none where less is lent.
 pub fn lay(
     notes: &mut Notes,

@@ -7,6 +7,7 @@ ghost use Rattle.noting.specs.Notes.{noting_of, Stays, Put};
 
 use super::stretch::Stretch;
 
+// No list of structs: C lends it to `t6963c_writers`, four numbers a store.
 /// The stores into a stretch, entered in a lent list, four numbers each: `count` entries are needed so far, and those for which there is room
 /// stand in the list.
 #[derive(Drop)]
@@ -17,17 +18,13 @@ pub struct Notes<'a> {
 }
 
 impl Notes<'_> {
-    // Four stores: a part of the list and an array of four would be no plainer.
     // An entry at a place: four numbers in a row.
     pub(crate) fn put(&mut self, place: usize, pair: usize, address: usize, before: u8, after: u8)
         requires { 4 * place + 4 ≤ length self.old.list.now }
         ensures { Put self.old place (store pair address before after) self.new }
     {
         let at = 4 * place;
-        self.list[at] = pair;
-        self.list[at + 1] = address;
-        self.list[at + 2] = before as usize;
-        self.list[at + 3] = after as usize;
+        self.list[at..at + 4].copy_from_slice(&[pair, address, before as usize, after as usize]);
     }
 
     /// One store, if it is in the stretch: counted, and listed where there is room.
@@ -56,6 +53,8 @@ impl Notes<'_> {
     }
 }
 
+// By its code, as `usual::tell` takes it: a decoded command is an enum and goes through memory (docs/SPEED.md).
+//
 // Whether a command stores a byte, by its code, or none; not asked about E0H to EFH, a copy among them.
 fn stores_one(code: u8) -> bool
     ensures { Singles code (cond result 1 0) }

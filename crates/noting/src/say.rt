@@ -8,7 +8,9 @@ use effects::store::byte_there;
 use state::registers::Bus;
 use usual::tell::tell;
 
-/// A command done, and its store noted: the bus then; or left, which gives none. E0H up are left: a copy stores many bytes.
+// `quiet` and a code by number, as docs/PROMISES.md has `tell` and this, which hands them on.
+/// A command done, and its store noted: the bus then; or left, which gives none. `quiet` says that this is a command and auto is off; where it is
+/// not, all is left, and so are E0H to EFH, since a copy stores many bytes.
 pub fn say(
     notes: &mut Notes,
     bus: Bus,

@@ -22,11 +22,10 @@ impl Stretch {
     }
 
     // How many addresses from one on lie as it does, inside or outside; inside none past FFFFH.
-    pub(crate) fn span(self, at: u16, inside: bool) -> usize
-        requires { inside ≡ in_stretch self.first self.last at }
+    pub(crate) fn span(self, at: u16) -> usize
         ensures { Spans self.first self.last at result }
     {
-        if inside {
+        if self.holds(at) {
             if at <= self.last {
                 return (self.last - at) as usize + 1;
             }

@@ -77,12 +77,14 @@ fn beside(panel: Panel, book: &[u8], first: Placed, behind: usize, end: usize) -
     }
 }
 
-// Operation i of a body whose operations are all sound, and the one behind it.
+// Operation i of a body whose operations are all sound, and the one behind it. Start and end and no `Span`:
+// `check`, which finds them, answers none.
 fn find(panel: Panel, book: &[u8], start: usize, end: usize, i: usize) -> Swap
     requires { DrawableBody panel book.now start end }
     ensures { swap result ≡ swap_in panel (operations_from (end - start) panel book.now start end) i }
 {
     let mut next = start;
+    // no iterator of operations: it would yield Results, tested in each round as here, and save the round's last line alone
     for _ in 0..i {
         let Ok(Some(standing)) = read(panel, book, next, end) else {
             return Swap::NoTwo;

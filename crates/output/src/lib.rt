@@ -24,6 +24,7 @@ fn write_text<P: Print, F: FnOnce(&mut [u8]) -> usize>(
     to.write_all(start_in(room, end))
 }
 
+// One by one: `Ran`, which holds them, is controller's, on which this crate does not stand (crates.txt).
 /// The run's line, to standard output or standard error: pairs taken, answers, refusal number and place.
 pub fn write_line(
     to: &impl Print,
@@ -39,12 +40,14 @@ pub fn write_line(
     )
 }
 
-// A count beside its list, here and below: docs/PROMISES.md names what this crate writes, and a caller may give any count.
+// A count beside its list, here and below: it may be past the list's end, where `&skips[..2 * count]` would stop each caller; and
+// `print_answers`, which docs/PROMISES.md names, takes both.
 /// The lines of the first `count` pairs skipped, two numbers of the list each: refusal number, and place in a part of the log that begins
 /// `before` pairs behind the log's start, from which the line counts.
 pub fn write_skipped(to: &impl Print, skips: &[usize], count: usize, before: usize) -> Result<()> {
     for skip in skips.chunks_exact(2).take(count) {
         let number = (skip[0] % 256) as u8;
+        // modulo 2^64, which no log reaches
         let place = before.wrapping_add(skip[1]);
         write_text(to, &mut [0; 56], |room| print_refusal(number, place, room))?;
     }
@@ -69,6 +72,8 @@ pub fn write_rows(to: &impl Print, panel: Panel, frame: &[u8]) -> Result<()> {
     )
 }
 
+// Beside log_program and xbm, which do other things with the frame: a function over a closure would be no shorter than the four lines.
+// Panel, registers, memory and ROM one by one: only `paint` takes them, and so.
 /// The rows of the frame painted; of one that painting refuses, blank.
 pub fn write_frame(
     to: &impl Print,
@@ -80,6 +85,7 @@ pub fn write_frame(
     let size = panel.frame_size();
     let mut room = [0u8; 20480];
     let frame = &mut room[..size];
+    // the refusal is told by the run's line; here it leaves the frame blank, and it is written so
     let _ = paint(panel, registers, memory, rom, frame);
     write_rows(to, panel, frame)
 }

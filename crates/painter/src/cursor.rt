@@ -21,6 +21,7 @@ pub(crate) fn covers(
     cursor.is_some_and(|laid| reaches(laid.cursor, panel, line, v, column))
 }
 
+// Beside display's, which compares with `panel.cursor_y`: a picture's cursor has its line as it is.
 // A cursor on the panel: its cell, and there the lowest rows, as many as its height.
 fn reaches(cursor: Cursor, panel: Panel, line: usize, v: usize, column: usize) -> bool
     requires { v < 8 }

@@ -8,7 +8,8 @@ use picture::plan::planes;
 use state::panel::Panel;
 use state::refusal::{Refusal, Refused};
 
-// Planes and frame as parameters: docs/PROMISES.md names this, and the draw program hands in parts of its arrays.
+// Planes and frame as parameters: docs/PROMISES.md names this, and the draw program hands in parts of its arrays. Beside display's `admit`:
+// here is no memory, and panel and lengths are all that is tested.
 /// The planes of a screen's picture and its dots in a phase, true where it is normal: `rom` of 1,024 bytes, `graphic` of C·8L, `codes` of
 /// C·L, `glyphs` of 1,024, `frame` of 8·L·R. Refused, with every lent buffer as it was: a panel that is not valid, a buffer of another
 /// length, a wrong book or screen with its place.

@@ -32,8 +32,8 @@ pub(crate) struct Canvas<'a> {
     ghost shapes: { length glyphs.now ≡ 1024 },
 }
 
-// Functions of the one plane that each changes, here and below: as methods each would promise that the others stay.
-// Operation 1: a text's codes from its cell on.
+// Operation 1: a text's codes from its cell on. Functions of the one plane that each changes, here and below: as methods each would promise
+// that the others stay.
 fn lay_text(codes: &mut [u8], panel: Panel, line: usize, column: usize, text: &[u8])
     requires { InPlane panel (TextRange panel text.now line column 0 (length text.now)) (cell_count panel) codes.old }
     ensures { codes.new ≡ sets codes.old (line * panel.columns + column) text.now }
@@ -41,8 +41,7 @@ fn lay_text(codes: &mut [u8], panel: Panel, line: usize, column: usize, text: &[
     store(codes, line * panel.columns + column, text);
 }
 
-// The numbers of operation 2, one by one: the book's operation holds them so.
-// Operation 2, row by row.
+// Operation 2, row by row. Its numbers one by one: `Placed::Rectangle` holds them so, and a struct would be made for this one call.
 fn lay_rectangle(
     graphic: &mut [u8],
     panel: Panel,
@@ -111,22 +110,20 @@ impl Canvas<'_> {
                     y: line,
                     height,
                 };
-                self.style = Style {
-                    cursor: Some(Laid { cursor, blink }),
-                    ..self.style
-                };
+                self.style.cursor = Some(Laid { cursor, blink });
             }
             Placed::Combine(combination) => self.style.combination = combination,
         }
     }
 
-    // A body whose operations are all sound.
+    // A body whose operations are all sound. Start and end and no `Span`: `check`, which finds them, answers none.
     pub(crate) fn apply_all(&mut self, book: &[u8], start: usize, end: usize)
         requires { DrawableBody self.old.panel book.now start end }
         ensures same { SamePlanes self.old self.new }
         ensures made { let p = self.old.panel in drawn self.new ≡ applied_in p (operations_from (end - start) p book.now start end) (drawn self.old) }
     {
         let mut next = start;
+        // no iterator of operations: it would yield Results, tested in each round as here, and save the round's last line alone
         while let Ok(Some(standing)) = read(self.panel, book, next, end) {
             self.apply(book, standing.placed);
             next = standing.next;

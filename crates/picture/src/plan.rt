@@ -11,7 +11,7 @@ use book::check::check;
 use state::panel::Panel;
 use state::refusal::{Refusal, Refused};
 
-// Planes as parameters: docs/PROMISES.md names this; the draw program and difference hand in parts of their arrays.
+// Planes as parameters, judged here: docs/PROMISES.md names this; the draw program and difference hand in parts of their arrays.
 /// The planes of a screen's picture, asked for by its key, and its style: `graphic` of C·8L bytes, `codes` of C·L, `glyphs` of 1,024.
 /// Refused, with the planes as they were: a panel that is not valid, a plane of another length, a wrong book or screen with its place.
 #[tactic(auto, unfolding(crate::specs::Planned::planes_of))]

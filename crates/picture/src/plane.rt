@@ -3,6 +3,7 @@ ghost use Rattle.std.specs.Prelude.{◌≡◌, ◌+◌, ◌≤◌, length, repli
 ghost use Rattle.std.proofs.lemmas.List.Edits.{sets};
 ghost use Rattle.ground.specs.Lists.{zeros};
 
+// Functions, here and below, of one slice method each: inlined, every operation would owe `sets` by itself.
 // Bytes of the book, to a place and on.
 pub(crate) fn store(plane: &mut [u8], at: usize, bytes: &[u8])
     requires { at + length bytes.now ≤ length plane.old }
@@ -19,6 +20,7 @@ pub(crate) fn fill(plane: &mut [u8], at: usize, n: usize, value: u8)
     plane[at..at + n].fill(value);
 }
 
+// Beside ground's `clear`, whose clause says `build`: the planes' definitions speak of `zeros`.
 // Zeros, all of it.
 #[tactic(auto, unfolding(ground::specs::Lists::zeros))]
 pub(crate) fn clear(plane: &mut [u8])

@@ -7,8 +7,8 @@ use state::panel::Panel;
 use state::refusal::Refusal;
 use state::registers::Registers;
 
-// A run's refusal stays a number, here and below: `play`, `play_on` and `close`, which docs/PROMISES.md names, take a `Ran` and answer for any
-// number that stands in it.
+// A run's refusal stays a number, and what is lent comes one by one, here and below: docs/PROMISES.md names `play`, `play_on` and `close`,
+// which take a `Ran`, answer for any number that stands in it, and lend what their caller owns.
 /// The run so far, and how many answers the part gave.
 #[derive(Clone, Copy, Debug, PartialEq, Eq)]
 pub struct Played {
@@ -123,7 +123,8 @@ pub fn play_on(
     }
 }
 
-/// The run of the whole log, by the lengths of memory, ROM and log: 8 where the log's is odd, behind 1 and 2, and then no pair counts.
+/// The run of the whole log, by the lengths of memory, ROM and log: OddLength where the log's is odd and neither Invalid nor WrongLength
+/// comes first, and then no pair counts.
 pub fn close(
     panel: Panel,
     registers: Registers,

@@ -22,7 +22,8 @@ pub fn character_rom() -> [u8; 1024]
     rom
 }
 
-/// N zeros. A room of millions is made by this, and not in place: its length is then a fact, which no proof counts out.
+// For a large room of which a proof is asked: the length is a fact here, where `[0; N]` in place would be counted out.
+/// N zeros.
 pub fn zeroed<const N: usize>() -> [u8; N]
     ensures value { result ≡ zeros N }
     ensures size { N ≡ length result }

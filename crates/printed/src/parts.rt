@@ -7,7 +7,9 @@ use crate::put::Text;
 use crate::screen::is_framed;
 use state::panel::Panel;
 
-// Number and place are no Result, here and below: docs/PROMISES.md names these, and a caller may give any number.
+// Number and place are no Result, a count stands beside its list, and nothing printed is 0 and no None, here and below: docs/PROMISES.md names
+// these with what they take and answer. A body each, here and in `screen`: one for all would take the line as a closure, whose promise on a
+// lent text its contract would have to hand on.
 /// The first line at the start of `out`, and its length; 0 where the room has less than 112 bytes.
 pub fn print_line(pairs: usize, answers: usize, number: u8, place: usize, out: &mut [u8]) -> usize
     ensures { printed result out.new ≡ print_line_of pairs answers number place out.old }

@@ -14,9 +14,10 @@ fn hex_digit(d: u8) -> u8
     requires { d < 16 }
     ensures { result ≡ hex_digit d }
 {
-    if d < 10 { 48 + d } else { 55 + d }
+    if d < 10 { b'0' + d } else { b'A' + (d - 10) }
 }
 
+// Beside layout's `Output` and writer's `Stream`: in common they'd have these two fields, and each puts what the others don't.
 // A text that is being put into a lent room: the next character at `at`.
 #[derive(Drop)]
 pub(crate) struct Text<'a> {
@@ -37,9 +38,9 @@ impl Text<'_> {
         requires { RoomFor (length bytes.now) self.old }
         ensures { Puts self.old bytes.now self.new }
     {
-        for byte in bytes {
-            self.byte(*byte);
-        }
+        let end = self.at + bytes.len();
+        self.room[self.at..end].copy_from_slice(bytes);
+        self.at = end;
     }
 
     // A number in decimal: the digits before the last, then the last.
@@ -47,7 +48,7 @@ impl Text<'_> {
         requires { RoomFor (length (decimal n)) self.old }
         ensures { Puts self.old (decimal n) self.new }
     {
-        let last = 48 + (n % 10) as u8;
+        let last = b'0' + (n % 10) as u8;
         if n < 10 {
             return self.byte(last);
         }
@@ -112,7 +113,7 @@ impl Text<'_> {
         requires { RoomFor (dots + 1) self.old × (from + (dots + 7) / 8 ≤ length frame.now) }
         ensures { Puts self.old (dot_line frame.now from dots) self.new }
     {
-        // over numbers, here and below: a dot is a bit of a byte, and `frame_line` has a row by its number
+        // over numbers: a dot is a bit of a byte
         for x in 0..dots {
             let dot = bit(frame[from + x / 8], 7 - x % 8);
             self.byte(dot_mark(dot));
@@ -128,9 +129,9 @@ impl Text<'_> {
         ensures { Puts self.old (frame_lines panel frame.now) self.new }
     {
         let dots = panel.columns * panel.width;
-        // no `div_ceil`: as the definition `row_bytes` has it
-        let bytes = (dots + 7) / 8;
+        let bytes = dots.div_ceil(8);
         let rows = 8 * panel.lines;
+        // by number and place: `chunks_exact(bytes)` would stop where a row has no bytes, and this takes such a panel too
         for row in 0..rows {
             self.dot_line(frame, row * bytes, dots);
         }

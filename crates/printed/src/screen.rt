@@ -36,7 +36,7 @@ fn put_screen(text: &mut Text, panel: Panel, number: u8, frame: &[u8])
     text.frame_lines(panel, frame);
 }
 
-// The number and the place are no Result: docs/PROMISES.md names this function, and a caller may give any number.
+// The number and the place are no Result, and nothing printed is 0, here and below: docs/PROMISES.md names both with what they take and answer.
 /// A picture's text at the start of `out`, and its length; 0 where a lent length is wrong.
 pub fn print_picture(panel: Panel, number: u8, place: usize, frame: &[u8], out: &mut [u8]) -> usize
     ensures { printed result out.new ≡ print_picture_of panel number place frame.now out.old }

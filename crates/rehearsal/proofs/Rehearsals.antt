@@ -11,10 +11,11 @@ use borrow.Author.Tests.{eqb-true, eq-eqb, le-ltb}
 use Rattle.ground.proofs.Tests.{both, both_left, both_right, settled}
 use Rattle.state.specs.declared.panel.Panel.{Panel}
 use Rattle.state.specs.declared.registers.Registers.{Registers}
-use Rattle.std.specs.Prelude.{Ok, Err}
+use Rattle.std.specs.Prelude.{Result, Ok, Err}
 use Rattle.state.specs.declared.refusal.Refusal.{Refusal}
 use Rattle.state.specs.declared.refusal.Refused.{Refused}
-use Rattle.state.proofs.RefusalNumbers.{not_zero}
+use Rattle.state.proofs.RefusalNumbers.{not_zero, same_number}
+use Rattle.rehearsal.specs.declared.rehearse.Rehearsed.{Rehearsed as Rehearsal-Run}
 use Rattle.state.specs.Replies.{Reply, reply}
 use Rattle.state.specs.Sizes.{frame_size, valid_size}
 use Rattle.state.proofs.Sizes.{is-size}
@@ -213,3 +214,22 @@ rehearse-settled p r mem rom book number room frame h k = (
   ap (λ (o : Rehearsal). o.room) (settled h k),
   ap (λ (o : Rehearsal). o.frame) (settled h k),
 )
+
+same_rehearsed : (r : Registers) (x y : Result Rehearsal-Run Refused) → rehearsed_reply r x ≡ rehearsed_reply r y → x ≡ y
+same_rehearsed r (Ok m) (Ok n) h =
+    let c = ap (λ (o : Rehearsed). o.pairs) h in
+    let e = ap (λ (o : Rehearsed). o.registers) h in
+    λ i. Ok (record { pairs = c i; registers = e i })
+same_rehearsed r (Ok m) (Err e) h = absurd (not_zero e.refusal (ap (λ (o : Rehearsed). o.number) (sym h)))
+same_rehearsed r (Err d) (Ok n) h = absurd (not_zero d.refusal (ap (λ (o : Rehearsed). o.number) h))
+same_rehearsed r (Err d) (Err e) h =
+    let n = same_number d.refusal e.refusal (ap (λ (o : Rehearsed). o.number) h) in
+    let p = ap (λ (o : Rehearsed). o.place) h in
+    λ i. Err (record { refusal = n i; place = p i })
+
+-- and so are the results that stand for them
+pub rehearse-result-settled : {x y : Result Rehearsal-Run Refused} {m n b c f g : List ℕ} (p : Panel) (r : Registers) (mem rom book : List ℕ) (number : ℕ) (room frame : List ℕ)
+    → rehearsed_all (rehearsed_reply r x) m b f ≡ rehearse_of p r mem rom book number room frame
+    → rehearsed_all (rehearsed_reply r y) n c g ≡ rehearse_of p r mem rom book number room frame → (x ≡ y) × (m ≡ n) × (b ≡ c) × (f ≡ g)
+rehearse-result-settled {x} {y} p r mem rom book number room frame h k =
+    let s = rehearse-settled p r mem rom book number room frame h k in (same_rehearsed r x y s.0, s.1, s.2, s.3)

@@ -1,4 +1,4 @@
-// A screen written, run on a controller and painted: what demand 3 asks for.
+// A screen written, run on a controller and painted.
 #![tactic(auto)]
 
 pub mod rehearse;

@@ -16,7 +16,8 @@ pub struct Rehearsed {
     pub registers: Registers,
 }
 
-// Buffers as parameters: docs/PROMISES.md names this, and each one is lent by a caller that owns it.
+// Buffers as parameters: docs/PROMISES.md names this, and each one is lent by a caller that owns it. A door of its own beside display's
+// `admit`, which takes these two tests as flags.
 /// Writes a screen's stream into `room` and runs it from these registers: `memory` of 65,536 bytes and `rom` of 1,024; `frame`, a byte for
 /// each eight dots, is then the picture. Refused, with every lent buffer as it was: `Invalid` panel or registers, `WrongLength`, and what
 /// `write` refuses.
@@ -46,6 +47,7 @@ pub fn rehearse(
     }
     let written = write(panel, book, number, room)?;
     let end = 2 * written;
+    // neither answers nor the run's number are looked at: a written stream reads nothing, and its whole picture is promised
     let mut none = [0u8; 1];
     let ran = run_stopping(
         panel,

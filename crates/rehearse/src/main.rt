@@ -1,5 +1,5 @@
 // The rehearse program: a panel, a screen's key and a book from standard input; to standard output what running the screen's stream from
-// reset came to, and the frame. Started with an argument it takes the character ROM before them.
+// reset came to, and the frame. Started with an argument it takes the character ROM before them, with two the panel is in two halves.
 #![tactic(auto)]
 
 ghost use Rattle.std.specs.Prelude.{◌≡◌, length};
@@ -18,7 +18,8 @@ use state::panel::Panel;
 use state::registers::Registers;
 use std::io::{Print, Result};
 
-// So many parameters: it exists because the frame is a part of an array that its caller owns.
+// A function, since the frame is a part of an array that its caller owns; no struct, which would be taken apart at once: `rehearse`,
+// which docs/PROMISES.md names, takes them one by one.
 // A screen rehearsed from reset, as text. There is room for 1,048,576 pairs.
 fn print_screen(
     dual: bool,
@@ -71,7 +72,7 @@ fn rehearse_text(dual: bool, rom: &[u8], input: &[u8], out: &mut [u8]) -> Told
     )
 }
 
-// Its own in each program: the room's length and what is shown differ, and no public function has the `requires` that a closure needs.
+// Its own in each program: what is shown differs, and no public function has the `requires` that a closure needs (docs/PROMISES.md).
 // The text printed: the screen's refusal number. One byte past the limit shows that a book is too long.
 fn show(rt: HostRuntime) -> Result<u8> {
     let mut rom = character_rom();

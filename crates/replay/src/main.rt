@@ -1,5 +1,6 @@
 // The replay program: a character ROM, a panel and a log of any length from standard input; to standard output the answers as they come
-// and, where it keeps going, the pairs skipped, then what the run came to and the frame.
+// and, where it keeps going, the pairs skipped, then what the run came to and the frame. With one argument the panel is in two halves, with
+// two it keeps going, with three both.
 #![tactic(auto)]
 
 use controller::run::Ran;
@@ -18,6 +19,7 @@ const PART: usize = 65536;
 
 const PARTS: u64 = 4294967296;
 
+// The list program's has registers too; here they stand in `Ran`.
 // What the log runs on.
 #[derive(Drop)]
 struct Machine<'a> {
@@ -55,7 +57,8 @@ impl Machine<'_> {
         Ok(played.ran)
     }
 
-    // `keep` is no closure: that would need a promise that it may be called again, and an `if` is plainer.
+    // A loop of its own in each program that reads parts: no public function has the `requires` that a closure needs. Nor is `keep` one:
+    // that would need a promise that it may be called again, and an `if` is plainer.
     // Part after part, from reset, by the run asked for; the last one is shorter than the others.
     fn play_all(&mut self, rt: HostRuntime, keep: bool) -> Result<Ran> {
         let mut ran = begin(Registers::reset());
@@ -69,6 +72,7 @@ impl Machine<'_> {
             } else {
                 self.play_part(rt, ran, pairs)?
             };
+            // modulo 2^64, which no log reaches
             bytes = bytes.wrapping_add(count);
             if count < PART {
                 let registers = Registers::reset();
@@ -80,7 +84,7 @@ impl Machine<'_> {
         Err(Error::from(ErrorKind::FileTooLarge))
     }
 
-    // The run's line, and the rows of its frame, which refusals 1 and 8 have not.
+    // The run's line, and the rows of its frame; on `Invalid` and `OddLength` the line only.
     fn show(&self, rt: HostRuntime, ran: Ran) -> Result<()> {
         write_line(&rt, ran.taken, ran.answers, ran.number, ran.place)?;
         if let Ok(Refusal::Invalid | Refusal::OddLength) = Refusal::try_from(ran.number) {

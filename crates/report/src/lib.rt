@@ -45,6 +45,7 @@ pub fn read_whole<R: Read>(input: &mut R, buf: &mut [u8]) -> std::result::Result
     Ok(done)
 }
 
+// `given` as a flag: docs/PROMISES.md names this, and it spares each program the `if`.
 /// A ROM that was given is the input's first part, which has to be whole.
 pub fn read_rom<R: Read>(input: &mut R, given: bool, rom: &mut [u8]) -> Result<()> {
     if given { input.read_exact(rom) } else { Ok(()) }
@@ -56,6 +57,7 @@ pub fn has_argument(rt: &impl Env, number: usize) -> bool {
     !matches!(rt.arg(number, &mut word), Err(FillError::NotPresent))
 }
 
+// A refusal by its number, here and below: docs/PROMISES.md names these, and the line and the report are numbers, 0 for none.
 /// A refusal's line, to standard output or standard error.
 pub fn put_refusal(out: &impl Print, number: u8, place: usize) -> Result<()> {
     println!(out; "refusal {number} place {place}")
@@ -80,8 +82,8 @@ pub fn put_outcome<T>(out: &impl Print, outcome: &std::result::Result<T, Refused
     }
 }
 
-/// The refusal number in decimal, to the line's end: all was read without an error and all was written, which is for the caller to see to.
 // by the kit's `io`: std has no safe handle for a descriptor that is not its own
+/// The refusal number in decimal, to the line's end: all was read without an error and all was written, which is for the caller to see to.
 pub fn report(number: u8) {
     print_decimal(REPORT_FILENO, number as u64);
     write_all(REPORT_FILENO, b"\n");

@@ -9,7 +9,8 @@ use printed::input::{panel_in, rest_in};
 use report::{finish, has_argument, put_refused, read_whole};
 use std::io::{Print, Result};
 
-// A line for each screen, by its number or identity; where one can't be written the others are tried all the same. What was salvaged opens.
+// The book is opened once more for its keys, which `salvage` (docs/PROMISES.md) does not answer: what was salvaged opens.
+// A line for each screen, by its number or identity; where one can't be written the others are tried all the same.
 fn put_report(out: &impl Print, book: &[u8], salvaged: Salvaged) -> Result<()> {
     let mut written = Ok(());
     if let Ok(spans) = open(book) {

@@ -40,6 +40,7 @@ fn put_operation(out: &impl Print, book: &[u8], placed: Placed) -> Result<()> {
         Placed::Cursor(line, column, height, blink) => {
             println!(out; "cursor {line} {column} {height} {}", blink as u8)
         }
+        // named here, as the rest of the line is: this program does not rest on naming, which has the same four
         Placed::Combine(Combination::Or) => println!(out; "mode OR"),
         Placed::Combine(Combination::Exor) => println!(out; "mode EXOR"),
         Placed::Combine(Combination::And) => println!(out; "mode AND"),
@@ -54,7 +55,8 @@ fn put_screen(out: &impl Print, panel: Panel, book: &[u8], span: Span) -> Result
     let end = span.end;
     let mut written = println!(out; "screen {key} {start} {end}");
     let mut at = start;
-    // the bound makes the walk end, without a measure of its own
+    // no iterator of operations: it would yield Results, tested in each round as here, and save `at = standing.next` alone; the bound makes the
+    // walk end, without a measure of its own
     for _ in start..end {
         match read(panel, book, at, end) {
             Ok(Some(standing)) => {

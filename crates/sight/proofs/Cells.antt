@@ -5,7 +5,7 @@ use Rattle.ground.proofs.Tests.{settled}
 use Rattle.state.specs.State.{valid_panel, valid_display}
 use Rattle.state.specs.declared.refusal.Refusal.{Refusal}
 use Rattle.state.specs.Replies.{reply}
-use Rattle.state.proofs.RefusalNumbers.{not_zero}
+use Rattle.state.proofs.RefusalNumbers.{not_zero, same_number}
 use Rattle.display.specs.Frame.{lent_lengths, reply_of}
 use Rattle.display.specs.Layers.{layers_at, Stretch, stretch, layers_from, alike, row_layers_of}
 use Rattle.sight.specs.Types.{Panel, Display, Seen}
@@ -67,3 +67,18 @@ layers-ok (Err y) e = absurd (not_zero y e)
 
 pub layers-shown : (x : Result Three Refusal) {s : Three} → x ≡ Ok s → s.shown ≡ (seen x).shown
 layers-shown x e = sym (ap (λ (y : Result Three Refusal). (seen y).shown) e)
+
+same_seen : (x y : Result Three Refusal) → seen x ≡ seen y → x ≡ y
+same_seen (Ok s) (Ok t) h =
+    let a = ap (λ (o : Seen). o.text) h in
+    let b = ap (λ (o : Seen). o.graphic) h in
+    let c = ap (λ (o : Seen). o.shown) h in
+    λ i. Ok (record { text = a i; graphic = b i; shown = c i })
+same_seen (Ok s) (Err e) h = absurd (not_zero e (ap (λ (o : Seen). o.number) (sym h)))
+same_seen (Err d) (Ok t) h = absurd (not_zero d (ap (λ (o : Seen). o.number) h))
+same_seen (Err d) (Err e) h = ap Err (same_number d e (ap (λ (o : Seen). o.number) h))
+
+-- and so are the results that stand for them
+pub layers-result-settled : {x y : Result Three Refusal} (p : Panel) (d : Display) (mem rom : List ℕ) (r c : ℕ)
+    → seen x ≡ layers_of p d mem rom r c → seen y ≡ layers_of p d mem rom r c → x ≡ y
+layers-result-settled {x} {y} p d mem rom r c h k = same_seen x y (settled h k)

@@ -11,6 +11,7 @@ use state::combination::is_attribute;
 use state::panel::Panel;
 use state::registers::Registers;
 
+// Two ways to the error, as the definition `copy_of` has them.
 fn copy_row(registers: &mut Registers, panel: Panel, memory: &mut [u8], rom: &[u8])
     requires { Seeing panel registers.old.display memory.old rom.now }
     ensures { machine registers.new memory.new ≡ copy_of panel rom.now (machine registers.old memory.old) (position panel registers.old) }

@@ -6,6 +6,8 @@ ghost use Rattle.sight.specs.Sight.{sighted};
 use state::panel::Panel;
 use state::registers::Display;
 
+// A `bool`, where other doors answer a refusal: what is not right leaves all as it was.
+//
 // A valid panel and display, and the lengths lent.
 pub(crate) fn sees(panel: Panel, display: Display, mem: &[u8], rom: &[u8]) -> bool
     ensures { result ≡ sighted panel display mem.now rom.now }

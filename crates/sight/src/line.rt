@@ -8,7 +8,8 @@ use display::seen::row_layers;
 use state::panel::Panel;
 use state::registers::Display;
 
-// An array and a count, since there is no heap.
+// An array and a count, since there is no heap. No ghost field for the count: `store` alone asks how many there are at most.
+//
 // Up to 80 bytes, and how many.
 #[derive(Clone, Copy, Debug, PartialEq, Eq)]
 pub(crate) struct Line {
@@ -33,6 +34,7 @@ pub(crate) fn gather(
     let mut text = [0u8; 80];
     let mut graphic = [0u8; 80];
     let mut shown = [0u8; 80];
+    // `seeing` says that nothing is refused here
     let _ = row_layers(
         panel,
         display,
@@ -55,6 +57,7 @@ pub(crate) fn store(mem: &mut [u8], address: u16, line: Line)
     requires { (length mem.old ≡ 65536) × (line.count ≤ 80) }
     ensures { mem.new ≡ stored mem.old address (take line.count line.bytes) }
 {
+    // the address by hand: a line may run past FFFFH, and no `iter_mut` goes round
     let mut at = address;
     for byte in &line.bytes[..line.count] {
         mem[at as usize] = *byte;

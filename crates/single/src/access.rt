@@ -14,7 +14,8 @@ pub struct Done {
     pub answer: Result<Option<u8>, Refusal>,
 }
 
-/// `step::access` on registers by value, for a loop whose registers are to stay in the machine's.
+// By value, for a run's loop: a local that is lent would stay in memory for the whole loop. Parameters as `step::access` takes them.
+/// `step::access` on registers by value.
 pub fn accessed(
     panel: Panel,
     registers: Registers,

@@ -22,6 +22,7 @@ use state::registers::{Auto, Move, Pending, Registers};
 
 // Panel, memory and ROM one by one: `access` and, behind the last of these steps, `peek` and `copy` take them so, and a struct would be put
 // together for the way between.
+//
 // What a command does, the data pending still there.
 fn effect(registers: &mut Registers, panel: Panel, memory: &mut [u8], rom: &[u8], command: Command)
     requires { Seeing panel registers.old.display memory.old rom.now }
@@ -134,6 +135,8 @@ fn step(
     }
 }
 
+// `kind` and `byte` side by side, and no `Pair`: docs/PROMISES.md names `access`, which refuses a kind above 4. The door is
+// written out, and no function of two flags for all entries: each would still hold its own two tests as arguments.
 /// One access of anything, on a memory of 65,536 bytes and a character ROM of 1,024: the tests at the door, then the pair. What a read gives
 /// is `Some`, and a read leaves the memory. A refused pair changes nothing: `Invalid` panel or registers, `WrongLength`, `UnknownKind` above 4,
 /// `UndefinedCode`, `InAuto`, `DataMissing`, `WrongWay`, in that order.

@@ -91,8 +91,7 @@ fn look_shows(look: Look, width: usize, normal: bool, dots: u8) -> u8
     if look.blinks & !normal {
         return 0;
     }
-    let shown = look.shown;
-    match shown {
+    match look.shown {
         Manner::Normal => dots,
         Manner::Reverse => full(width) - dots,
         Manner::Inhibit => 0,
@@ -109,6 +108,7 @@ fn all_or_none(width: usize, set: bool) -> u8
     0
 }
 
+// Two tables in one array: docs/PROMISES.md names this, and the definition `shades_of` has one list.
 /// What dots that are all set, then all reset, become under each of the sixteen codes; eight are the most.
 pub fn shades(width: usize, normal: bool) -> [u8; 32]
     ensures { result ≡ shades_of (min width 8) normal }
@@ -129,6 +129,7 @@ pub fn shade(width: usize, mem: &[u8], start: u16, table: &[u8], cells: &mut [u8
 {
     if (mem.len() == 65536) & (table.len() == 32) {
         let all = full(width);
+        // by hand, as in `ground::stretches::read_round`
         let mut at = start;
         for cell in cells.iter_mut() {
             let code = (mem[at as usize] % 16) as usize;

@@ -5,6 +5,7 @@ ghost use Rattle.state.specs.Combination.{is_attribute, combined, mixed, mixed_r
 use super::registers::{Combination, DisplayBits};
 use ground::bytes::low;
 
+// a function, though it is `==`: docs/PROMISES.md names it
 /// Whether it is attribute mode.
 pub fn is_attribute(combination: Combination) -> bool
     ensures { result ≡ is_attribute combination }
@@ -24,6 +25,8 @@ pub fn combine(combination: Combination, text: u8, graphic: u8) -> u8
     }
 }
 
+// Two flags, as the definition `mixed` takes them: `DisplayBits` has two more, of the cursor.
+//
 // The layers that are on, together.
 fn mix(text_on: bool, graphic_on: bool, combination: Combination, text: u8, graphic: u8) -> u8
     ensures { result ≡ mixed text_on graphic_on combination text graphic }
@@ -37,6 +40,7 @@ fn mix(text_on: bool, graphic_on: bool, combination: Combination, text: u8, grap
     graphic
 }
 
+// Bits and combination, and no `Display`: docs/PROMISES.md names this.
 /// Cells of text, the graphic's bytes mixed in from an address on, round; a memory of another length leaves them as they were.
 pub fn mix_round(
     bits: DisplayBits,
@@ -49,6 +53,7 @@ pub fn mix_round(
     ensures { cells.new ≡ mixed_round bits.text bits.graphic combination width mem.now start cells.old }
 {
     if mem.len() == 65536 {
+        // by hand, as in `ground::stretches::read_round`
         let mut at = start;
         for cell in cells.iter_mut() {
             let graphic = low(width, mem[at as usize]);

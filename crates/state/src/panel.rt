@@ -4,7 +4,8 @@ ghost use Rattle.state.specs.State.{lines_fit, valid_panel};
 ghost use Rattle.state.specs.Halves.{cursor_y};
 ghost use Rattle.state.specs.Sizes.{row_size, frame_size, cell_count, valid_size};
 
-// No ghost facts: a panel that is not valid is an input too, refused as 1, so inner functions say `valid_panel`.
+// No ghost facts: a panel that is not valid is an input too, refused as `Invalid`. Nor a second type with the fact, made at each door: the public
+// functions that stand behind the doors take any `Panel`, so that it would be taken apart again at each of them.
 /// C columns, L character lines, cells of w dots; dual where it is scanned in two halves.
 #[derive(Clone, Copy, Debug, PartialEq, Eq)]
 pub struct Panel {
@@ -25,13 +26,13 @@ impl Panel {
             & ((self.width == 6) | (self.width == 8))
     }
 
+    // 0 and no Option, here and below: docs/PROMISES.md names these three with that answer.
     /// R, the bytes of a dot row; each size is 0 where the panel is not valid.
     pub fn row_size(self) -> usize
         ensures { result ≡ valid_size self (row_size self) }
     {
         if self.valid() {
-            // no `div_ceil`: as the definition `row_bytes` has it
-            (self.columns * self.width + 7) / 8
+            (self.columns * self.width).div_ceil(8)
         } else {
             0
         }

@@ -8,7 +8,7 @@ use std::fmt;
 /// Why something asked for is refused, in the order of its numbers, 1 to 19; `Display` says each in words.
 #[derive(Clone, Copy, Debug, PartialEq, Eq)]
 pub enum Refusal {
-    Invalid,
+    Invalid = 1,
     WrongLength,
     UnknownKind,
     UndefinedCode,
@@ -45,27 +45,7 @@ impl Refusal {
     pub fn number(self) -> u8
         ensures { result ≡ number_of self }
     {
-        match self {
-            Refusal::Invalid => 1,
-            Refusal::WrongLength => 2,
-            Refusal::UnknownKind => 3,
-            Refusal::UndefinedCode => 4,
-            Refusal::InAuto => 5,
-            Refusal::DataMissing => 6,
-            Refusal::WrongWay => 7,
-            Refusal::OddLength => 8,
-            Refusal::WrongBook => 9,
-            Refusal::NoSuchScreen => 10,
-            Refusal::WrongOperation => 11,
-            Refusal::NoRoomForStream => 12,
-            Refusal::NoRoomForAnswer => 13,
-            Refusal::AnswersUneven => 14,
-            Refusal::NoRoomInList => 15,
-            Refusal::NoRoomForSkipped => 16,
-            Refusal::OtherIdentities => 17,
-            Refusal::TooLarge => 18,
-            Refusal::UsesAnd => 19,
-        }
+        self as u8
     }
 }
 

@@ -66,7 +66,8 @@ pub struct Pending {
     pub newest: u8,
 }
 
-/// All that decides how the next access is taken. `auto` comes first and makes it ten bytes: one of eight is carried about as a single number.
+// `auto` comes first and makes it ten bytes: one of eight would be carried about as a single number (docs/SPEED.md).
+/// All that decides how the next access is taken.
 #[derive(Clone, Copy, Debug, PartialEq, Eq)]
 pub struct Bus {
     pub auto: Auto,
@@ -107,12 +108,7 @@ impl From<Combination> for u8 {
     ghost from_gives = { λ combination byte. byte ≡ combination_byte combination };
 
     fn from(combination: Combination) -> u8 {
-        match combination {
-            Combination::Or => 0,
-            Combination::Exor => 1,
-            Combination::And => 2,
-            Combination::Attribute => 3,
-        }
+        combination as u8
     }
 }
 
@@ -120,11 +116,7 @@ impl From<Auto> for u8 {
     ghost from_gives = { λ auto byte. byte ≡ auto_byte auto };
 
     fn from(auto: Auto) -> u8 {
-        match auto {
-            Auto::Off => 0,
-            Auto::Write => 1,
-            Auto::Read => 2,
-        }
+        auto as u8
     }
 }
 
@@ -177,9 +169,7 @@ impl Registers {
     pub fn valid(self) -> bool
         ensures { result ≡ valid_registers self }
     {
-        let display = self.display;
-        let bus = self.bus;
-        display.valid() & bus.valid()
+        self.display.valid() & self.bus.valid()
     }
 
     /// The state after a reset, which is valid.

@@ -14,7 +14,7 @@ use state::combination::is_attribute;
 use state::panel::Panel;
 use state::registers::Registers;
 
-// A copy's, from the pointer's column to the row's end.
+// How many bytes a copy stores: from the pointer's column to the row's end.
 fn copied(panel: Panel, registers: Registers) -> usize
     requires { valid_panel panel ≡ true }
     ensures { result ≡ copy_stores panel registers.display (position panel registers) }
@@ -29,7 +29,7 @@ fn copied(panel: Panel, registers: Registers) -> usize
     panel.columns - position.column
 }
 
-// A command's.
+// How many a command stores.
 fn by_command(panel: Panel, registers: Registers, command: Command) -> usize
     requires { valid_panel panel ≡ true }
     ensures { result ≡ command_stores panel registers command }
@@ -42,7 +42,7 @@ fn by_command(panel: Panel, registers: Registers, command: Command) -> usize
     }
 }
 
-// A code's.
+// How many the command of a code stores; none where it is undefined.
 fn by_code(panel: Panel, registers: Registers, code: u8) -> usize
     requires { valid_panel panel ≡ true }
     ensures { result ≡ code_stores panel registers (decode_of code) }
@@ -53,6 +53,7 @@ fn by_code(panel: Panel, registers: Registers, code: u8) -> usize
     by_command(panel, registers, command)
 }
 
+// `kind` and `byte` side by side, and no `Pair`: docs/PROMISES.md names this, and the kind may be any.
 /// How many bytes a pair of any kind stores if it is accepted, 0 to 80; a panel that is not valid stores nothing.
 pub fn stores(panel: Panel, registers: Registers, kind: u8, byte: u8) -> usize
     ensures { result ≡ stores_asked panel registers (record { kind = kind; byte = byte }) }

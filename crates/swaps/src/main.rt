@@ -3,13 +3,14 @@
 #![tactic(auto)]
 
 use book::check::check;
-use ground::bytes::word;
+use contents::bytes::word_at;
 use order::swap::{Swap, may_swap};
-use printed::input::{byte_in, panel_in, rest_in};
+use printed::input::{panel_in, rest_in};
 use report::{finish, has_argument, put_outcome, read_whole};
 use state::panel::Panel;
 use std::io::{Print, Result};
 
+// Each two are asked for by themselves: `may_swap`, which docs/PROMISES.md names, takes one place at a time.
 // A line for each operation and the one behind it; where one can't be written the others are tried all the same. A body has no more
 // operations than the book has bytes.
 fn put_swaps(out: &impl Print, panel: Panel, book: &[u8], key: usize) -> Result<()> {
@@ -31,7 +32,7 @@ fn show(rt: HostRuntime) -> Result<u8> {
     let end = read_whole(&mut rt.stdin(), &mut input)?;
     let all = &input[..end];
     let panel = panel_in(all, has_argument(&rt, 1));
-    let key = word(byte_in(all, 3), byte_in(all, 4)) as usize;
+    let key = word_at(all, 3) as usize;
     let book = rest_in(all, 5);
     let told = put_outcome(&rt, &check(panel, book, key));
     put_swaps(&rt, panel, book, key).and(told)

@@ -8,7 +8,7 @@ use state::combination::is_attribute;
 use state::panel::Panel;
 use state::registers::{Combination, Display, Plane};
 
-// Two stretches meet where the second begins at most C - 1 before the first one's start, or inside it: so many places.
+// How many places there are for the start of a row of C addresses that meets n others: at most C - 1 before the first of these, or at one of them.
 fn span(columns: usize, n: usize) -> usize
     requires { (0 < columns) × (columns ≤ 80) }
     ensures { result ≡ span_of columns n }
@@ -37,7 +37,8 @@ fn hits(display: Display, code: u8, v: usize, at: u16, n: usize) -> bool
 {
     let from = (2048 * (display.offset as usize) + 8 * (code as usize) + v) as u16;
     let ahead = from.wrapping_sub(at) as usize;
-    !(!display.external & (code < 128)) & (ahead < n)
+    let from_rom = !display.external & (code < 128);
+    !from_rom & (ahead < n)
 }
 
 // A graphic byte stands by its dot row, an attribute byte by its line.
@@ -80,7 +81,7 @@ impl Stored<'_> {
     {
         let v = row % 8;
         let start = self.display.text.address(row / 8, 0);
-        // over columns: a line may run past FFFFH, so that no slice has its codes
+        // over columns: a line may run past FFFFH, so that no slice has its codes; with `(0..columns).any(..)` the check found no proof
         for column in 0..self.panel.columns {
             let from = start.wrapping_add(column as u16) as usize;
             if hits(self.display, self.memory[from], v, self.at, self.n) {
@@ -163,6 +164,7 @@ impl Stored<'_> {
     }
 }
 
+// Parameters one by one: docs/PROMISES.md names this, and each list is lent by whoever asks.
 /// Sets the flags, one of 8 · lines for each dot row, of the rows that read one of `n` addresses from `at` on, or of all where something
 /// `altered`. Asked of anything: what is not valid or has another length, and a pair that neither alters nor stores, marks nothing.
 pub fn mark(

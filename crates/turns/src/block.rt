@@ -4,10 +4,13 @@ ghost use Rattle.ground.specs.Lists.{stored};
 ghost use Rattle.effects.specs.Effect.{with_pointer};
 ghost use Rattle.turns.specs.Blocked.{bytes_from, AllData, Scanning, Scanned, Begun, Blocked, Blocks};
 
+use codes::pair::Kind;
 use state::registers::Bus;
 
-// A log and places of it, here and below, no slice of its pairs: a block's place is what a run asks for, and the definitions speak of it.
-// The kinds of sixteen pairs, or-ed together: 0 where all are data.
+// A log and places of it, here and below, no slice of its pairs: a block's place is what a run asks for, and docs/PROMISES.md names `block`.
+// Kinds as bytes: sixteen are or-ed at a time, which gives `Kind::Data as u8`, 0, where all are data.
+//
+// The kinds of sixteen pairs, or-ed together.
 fn kinds(log: &[u8], from: usize) -> u8
     requires { 2 * (from + 16) ≤ length log.now }
     ensures { result ≡ 0 → AllData log.now from 16 }
@@ -27,7 +30,7 @@ fn scan_sixteens(log: &[u8], from: usize, total: usize) -> usize
     let mut i = from;
     // a `while`: sixteen at a time, as many as there are
     while i + 16 <= total {
-        if kinds(log, i) != 0 {
+        if kinds(log, i) != Kind::Data as u8 {
             return i;
         }
         i += 16;
@@ -41,7 +44,7 @@ fn scan(log: &[u8], from: usize, total: usize) -> usize
     ensures { Scanned log.now from total result }
 {
     for end in scan_sixteens(log, from, total)..total {
-        if log[2 * end] != 0 {
+        if log[2 * end] != Kind::Data as u8 {
             return end;
         }
     }
@@ -67,7 +70,7 @@ fn store_few(mem: &mut [u8], start: u16, log: &[u8], from: usize, total: usize) 
 {
     let mut pointer = start;
     for i in from..total {
-        if log[2 * i] != 0 {
+        if log[2 * i] != Kind::Data as u8 {
             return i;
         }
         mem[pointer as usize] = log[2 * i + 1];

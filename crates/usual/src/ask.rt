@@ -15,7 +15,9 @@ pub struct Asked {
     pub given: usize,
 }
 
-/// Status (kind 3) or data (kind 2), where there is room for the answer behind the `given` first. Any other pair is left, and gives none.
+// Kind, buffer and count as docs/PROMISES.md has `ask`, which leaves a pair of any kind. No `get_mut(given)`: behind it a proof knows no byte of the
+// buffer.
+/// A read of the status or of data, where there is room for the answer behind the `given` first. Any other pair is left, and gives none.
 pub fn ask(
     phase: bool,
     bus: Bus,

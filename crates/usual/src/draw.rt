@@ -4,9 +4,10 @@ ghost use Rattle.usual.specs.Ready.{Draws};
 
 use state::registers::{Combination, Cursor, Display, DisplayBits};
 
-// Codes once more beside `codes::decode`: a decoded command is an enum and goes through memory (docs/SPEED.md).
+// Codes once more beside `codes::decode`: a decoded command is an enum and goes through memory (docs/SPEED.md). `quiet` as docs/PROMISES.md has
+// `draw`.
 /// The commands that need no data and change the display alone: mode, display bits, cursor height; the display then. Any other is left, and
-/// gives none.
+/// gives none. `quiet` says that this is a command and auto is off; where it is not, all is left.
 pub fn draw(display: Display, quiet: bool, code: u8) -> Option<Display>
     ensures { Draws display quiet code (drawn display result) }
 {

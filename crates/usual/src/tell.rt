@@ -14,14 +14,17 @@ pub struct Told {
     pub done: bool,
 }
 
+// A command that is left.
 fn left(bus: Bus) -> Told
     ensures { result ≡ record { bus = bus; done = false } }
 {
     Told { bus, done: false }
 }
 
-// Codes once more beside `codes::decode`: a decoded command is an enum and goes through memory (docs/SPEED.md).
-/// The commands that a drawing program sends most: pointer, auto, stores, loads and bits, where they are taken. Any other is left.
+// Codes once more beside `codes::decode`: a decoded command is an enum and goes through memory (docs/SPEED.md). `quiet` as docs/PROMISES.md has
+// `tell`.
+/// The commands that a drawing program sends most: pointer, auto, stores, loads and bits, where they are taken. Any other is left. `quiet` says that
+/// this is a command and auto is off; where it is not, all is left.
 pub fn tell(bus: Bus, mem: &mut [u8], quiet: bool, code: u8) -> Told
     ensures { Tells bus mem.old quiet code result mem.new }
 {

@@ -23,6 +23,10 @@ use turns::note::note;
 use turns::taken::Taken;
 use usual::part::{datum, emptied, freed};
 
+// Beside `controller::turn`: one for both would be public and take its access as a closure, and no public function has the `requires` that a
+// closure needs (docs/PROMISES.md). Parameters one by one, here and below, as `access` and `run` take them, which docs/PROMISES.md names. No
+// `get_mut(given)`: behind it a proof knows no byte of the buffer.
+//
 // One pair; what a read gives goes into the buffer.
 fn turn(
     panel: Panel,
@@ -56,6 +60,8 @@ fn turn(
     })
 }
 
+// `log`, `from` and `total` as `turns::block::block` takes them.
+//
 // A block of data, and the rows that read one of its addresses flagged: once for all of them.
 fn stretch(
     panel: Panel,
@@ -85,6 +91,8 @@ fn stretch(
 }
 
 // Once more beside `usual`: what two callers of one library share is inlined in neither (docs/DECISIONS.md).
+// Kinds stay numbers, here and below, as in `controller::run`: `access` refuses those above 4.
+//
 // What surrounds a block of data, and alters nothing that is shown: data in auto off, 24H, B0H and B2H, where they are taken.
 fn at_once(registers: Registers, kind: u8, byte: u8) -> Option<Registers>
     ensures { IfSome result (λ next. Quickly registers (record { kind = kind; byte = byte }) next) }
@@ -113,9 +121,10 @@ fn at_once(registers: Registers, kind: u8, byte: u8) -> Option<Registers>
     None
 }
 
-// A loop of its own beside `controller::run`'s: here a block and a pair also mark the rows that they touch.
-// The first `total` pairs of a log, on what is known to be valid. A `while`, since a block takes many at once. `given` and `listed` stay numbers
+// A loop of its own beside `controller::run`'s: here a block and a pair also mark the rows that they touch. `given` and `listed` stay numbers
 // beside their buffers, as `note` takes them: lent in a struct, a local stays in memory for the whole loop.
+//
+// The first `total` pairs of a log, on what is known to be valid.
 fn pairs(
     panel: Panel,
     registers: Registers,
@@ -135,6 +144,7 @@ fn pairs(
     let mut given: usize = 0;
     let mut listed: usize = 0;
     let mut i: usize = 0;
+    // a `while`, since a block takes many pairs at once
     while i < total {
         let kind = log[2 * i];
         let byte = log[2 * i + 1];
@@ -142,10 +152,7 @@ fn pairs(
         let auto = bus.auto;
         if (kind == Kind::Data as u8) & is_write(auto) {
             let end = stretch(panel, state, memory, log, i, total, flags);
-            state = Registers {
-                display: state.display,
-                bus: passed(bus, end - i),
-            };
+            state.bus = passed(bus, end - i);
             i = end;
             continue;
         }
@@ -173,6 +180,7 @@ fn pairs(
     ended(0, 0, i, given, state, listed)
 }
 
+// The door is written out: a `RanOn` is answered, so that no `?` can hand on what a shared test refuses.
 /// At most `limit` pairs of a log, refused ones skipped and listed, the flags kept, one of 8 · lines for each dot row. What it answers is
 /// `controller::run`'s; with `Invalid`, `WrongLength` and `OddLength` nothing is touched.
 #[tactic(auto, using(crate::proofs::RunDoors::least), unfolding(crate::specs::Watched::flag_run_of))]

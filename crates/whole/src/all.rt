@@ -11,6 +11,7 @@ use state::registers::Registers;
 // Bytes of a part: 4,096 pairs, with room for an answer to each.
 const PART: usize = 8192;
 
+// Panel, memory, ROM and log one by one, here and below: docs/PROMISES.md names `run_all`, and `play` takes them so.
 // The next part, its answers dropped.
 #[tactic(auto, unfolding(crate::specs::Played::played_part, ground::specs::Lists::zeros))]
 fn play_part(panel: Panel, past: Ran, mem: &mut [u8], rom: &[u8], part: &[u8]) -> Ran
@@ -29,7 +30,7 @@ pub fn run_all(panel: Panel, registers: Registers, mem: &mut [u8], rom: &[u8], l
         let mut none = [0u8; 0];
         return run_stopping(panel, registers, mem, rom, log, 0, &mut none);
     }
-    // the first part has no pair: 1 and 2 are found where the log has none either
+    // the first part has no pair, so that Invalid and WrongLength are found where the log has none either
     let mut ran = play_part(panel, begin(registers), mem, rom, &log[..0]);
     for part in log.chunks(PART) {
         ran = play_part(panel, ran, mem, rom, part);

@@ -24,7 +24,7 @@ struct Told {
     refusal: Refusal,
 }
 
-// A refusal's line; there is no frame to print.
+// A refusal's line, by `print_picture`, which docs/PROMISES.md names and which prints no frame behind it.
 fn put_refusal(panel: Panel, refused: Refused, error: &mut [u8]) -> usize
     requires { length error.old ≡ 196608 }
     ensures { printed result error.new ≡ print_text true (refusal_line (number_of refused.refusal) refused.place) error.old }
@@ -34,7 +34,7 @@ fn put_refusal(panel: Panel, refused: Refused, error: &mut [u8]) -> usize
     print_picture(panel, number, refused.place, &none, error)
 }
 
-// What the program gives, at the start of two rooms, and how much; nothing and 2 where a room has another length.
+// What the program gives, at the start of two rooms, and how much; nothing and `WrongLength` where a room has another length.
 fn write_both(dual: bool, input: &[u8], out: &mut [u8], error: &mut [u8]) -> Result<usize, Told>
     ensures { given_in (lengths result) out.new error.new ≡ write_given_of dual input.now out.old error.old }
 {
@@ -50,6 +50,7 @@ fn write_both(dual: bool, input: &[u8], out: &mut [u8], error: &mut [u8]) -> Res
     let book = rest_in(input, 5);
     match write(panel, book, key, &mut out[3..]) {
         Ok(pairs) => {
+            // tried as one `copy_from_slice` of these three: the proof that the stream stands behind them did not close
             out[0] = byte_in(input, 0);
             out[1] = byte_in(input, 1);
             out[2] = byte_in(input, 2);

@@ -26,7 +26,7 @@ fn write_input(rt: HostRuntime, dual: bool, input: &[u8]) -> Result<u8> {
     }
 }
 
-// Its own in each program: the room's length and what is shown differ, and no public function has the `requires` that a closure needs.
+// Its own in each program: what is shown differs, and no public function has the `requires` that a closure needs (docs/PROMISES.md).
 // One byte past the limit shows that a book is too long.
 fn write_screen(rt: HostRuntime) -> Result<u8> {
     let mut input = [0u8; 32774];

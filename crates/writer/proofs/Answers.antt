@@ -201,7 +201,7 @@ module _ (p : Panel) (book : List ℕ) (number : ℕ) (room : List ℕ) where
       omega (arith, t.fits, ap length t.holds ∙ length-sets room 0 (log_of (stream_of p t.os)))
 
 -- two answers that stand for one reply are equal
-same_written : (x y : Result ℕ Refused) → written_reply x ≡ written_reply y → x ≡ y
+pub same_written : (x y : Result ℕ Refused) → written_reply x ≡ written_reply y → x ≡ y
 same_written (Ok m) (Ok n) h = ap Ok (ap (λ (r : Written). r.pairs) h)
 same_written (Ok m) (Err e) h = absurd (not_zero e.refusal (ap (λ (r : Written). r.number) (sym h)))
 same_written (Err d) (Ok n) h = absurd (not_zero d.refusal (ap (λ (r : Written). r.number) h))
@@ -223,3 +223,8 @@ count-settled {x} {y} p book number h k = same_written x y (settled h k)
 -- where there is room, what stands behind a stream and where it ends is determined
 pub add-settled : {a x y : Stream} {ps : List Pair} → Puts a ps x → Puts a ps y → (x.room.now ≡ y.room.now) × (x.at ≡ y.at)
 add-settled h k = (h.holds ∙ sym k.holds, h.ends ∙ sym k.ends)
+
+-- and so are the results that stand for them
+pub write-result-settled : {x y : Result ℕ Refused} {a b : List ℕ} (p : Panel) (book : List ℕ) (number : ℕ) (room : List ℕ)
+    → wrote_all (written_reply x) a ≡ write_of p book number room → wrote_all (written_reply y) b ≡ write_of p book number room → (x ≡ y) × (a ≡ b)
+write-result-settled {x} {y} p book number room h k = let s = write-settled p book number room h k in (same_written x y s.0, s.1)

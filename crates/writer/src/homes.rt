@@ -4,7 +4,7 @@ ghost use Rattle.writer.specs.Homes.{text_home};
 
 use state::panel::Panel;
 
-// Never made, so never compared: a name before the addresses.
+// A struct that is never made, and no constants of the module: docs/FORMS.md names these as associated constants.
 /// Where the areas of a written screen begin.
 #[derive(Clone, Copy)]
 pub struct Homes {}

@@ -31,8 +31,8 @@ pub fn command(byte: u8) -> Pair
     }
 }
 
-// Text, graphics and cursor shown, the cursor steady or blinking.
-fn cursor_code(blink: bool) -> u8
+/// Text, graphics and cursor shown, the cursor steady or blinking.
+pub fn cursor_code(blink: bool) -> u8
     ensures { result ≡ cond blink 0x9f 0x9e }
 {
     if blink { 0x9f } else { 0x9e }
@@ -52,6 +52,7 @@ pub fn cursor(panel: Panel, line: u8, column: u8, height: u8, blink: bool) -> [P
     ]
 }
 
+// Beside layout's `Output` and printed's `Text`: in common they'd have these two fields, and each puts what the others don't.
 /// A stream that is being put into a lent room: a kind and a byte for each pair, the next pair at byte `at`.
 #[derive(Drop)]
 pub struct Stream<'a> {

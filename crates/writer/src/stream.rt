@@ -23,8 +23,7 @@ fn put_text(stream: &mut Stream, panel: Panel, line: usize, column: usize, codes
     stream.block(text_home(panel) + cell as u16, codes);
 }
 
-// The numbers of operation 2, one by one: the book's operation holds them so.
-// Operation 2, row by row.
+// Operation 2, row by row. Its numbers one by one: `Placed::Rectangle` holds them so, and a struct would be made for this one call.
 fn put_rows(
     stream: &mut Stream,
     panel: Panel,
@@ -115,12 +114,13 @@ fn put_operation(stream: &mut Stream, panel: Panel, book: &[u8], placed: Placed)
     }
 }
 
-// The pairs of a body whose operations are all sound.
+// The pairs of a body whose operations are all sound. Start and end and no `Span`: `check`, which finds them, answers none.
 pub(crate) fn put_body(stream: &mut Stream, panel: Panel, book: &[u8], start: usize, end: usize)
     requires { WritableBody panel book.now start end stream.old }
     ensures { Puts stream.old (body_pairs panel (operations_in (operations_from (end - start) panel book.now start end))) stream.new }
 {
     let mut next = start;
+    // no iterator of operations: it would yield Results, tested in each round as here, and save the round's last line alone
     while let Ok(Some(standing)) = read(panel, book, next, end) {
         put_operation(stream, panel, book, standing.placed);
         next = standing.next;

@@ -5,6 +5,9 @@ use lib.Seq.{sets}
 use borrow.Author.Tests.{lt-leb}
 use Rattle.ground.proofs.Tests.{both_left, both_right, settled}
 use Rattle.state.specs.State.{valid_panel, valid_registers, none}
+use Rattle.state.proofs.RefusalNumbers.{same_placed_reply}
+use Rattle.writers.specs.declared.list.Listed.{Listed as Answered}
+use Rattle.writers.specs.Replied.{listed}
 use Rattle.display.specs.Frame.{lent_lengths}
 use Rattle.codes.specs.Command.{is_off, decode_of}
 use Rattle.effects.specs.Machine.{Machine, machine}
@@ -425,3 +428,18 @@ pub list-settled : {x y : Listed} {m n k l : List ℕ} (p : Panel) (r : Register
 list-settled p r mem rom log first last list h k =
     let e = settled h k in
     (ap (λ (o : ListedAll). o.listed) e, ap (λ (o : ListedAll). o.memory) e, ap (λ (o : ListedAll). o.list) e)
+
+same_listed : (x y : Answered) → listed x ≡ listed y → x ≡ y
+same_listed x y h =
+    let r = ap (λ (o : Listed). o.registers) h in
+    let c = ap (λ (o : Listed). o.count) h in
+    let n = ap (λ (o : Listed). o.number) h in
+    let p = ap (λ (o : Listed). o.place) h in
+    let e = same_placed_reply x.end y.end (λ i. record { number = n i; place = p i }) in
+    λ i. record { registers = r i; count = c i; end = e i }
+
+-- and so are the answers that stand for them
+pub list-result-settled : {x y : Answered} {m n k l : List ℕ} (p : Panel) (r : Registers) (mem rom log : List ℕ) (first last : ℕ) (list : List ℕ)
+    → listed_all (listed x) m k ≡ list_of p r mem rom log first last list → listed_all (listed y) n l ≡ list_of p r mem rom log first last list → (x ≡ y) × (m ≡ n) × (k ≡ l)
+list-result-settled {x} {y} p r mem rom log first last list h k =
+    let s = list-settled p r mem rom log first last list h k in (same_listed x y s.0, s.1, s.2)

@@ -7,6 +7,8 @@ ghost use Rattle.writers.specs.Ready.{Held, stores_by};
 use ground::stretches::read_round;
 use noting::note::Notes;
 
+// An array of the most there can be, since there is no heap; no slice of the memory, which the pair is about to change and which goes round.
+//
 // The bytes from an address on, before a pair stores there.
 pub(crate) fn hold(memory: &[u8], at: u16, n: usize) -> [u8; 80]
     requires { (length memory.now ≡ 65536) × (n ≤ 80) }

@@ -65,7 +65,9 @@ fn ended(display: Display, bus: Bus, room: usize, count: usize) -> Listed
     }
 }
 
-// A loop of its own beside `controller::run`'s: here the stores into the stretch are noted.
+// A loop of its own beside `controller::run`'s: here the stores into the stretch are noted. Kinds stay numbers, as there. Display and bus are two
+// locals of the loop (docs/SPEED.md); panel, memory, ROM and log come one by one, as docs/PROMISES.md has `list`.
+//
 // All pairs of a log, on a machine that is known to be valid. As in `controller::run`, each test ends in `continue`; any pair left goes through
 // a whole access.
 fn follow(
@@ -111,6 +113,7 @@ fn follow(
             bus = next;
             continue;
         }
+        // below C0H: of these codes its proof knows that they store nothing
         if let Some(next) = draw(display, quiet & (byte < 0xc0), byte) {
             display = next;
             bus = emptied(bus);
@@ -136,6 +139,8 @@ fn follow(
     ended(display, bus, notes.list.len() / 4, notes.count)
 }
 
+// First and last as two numbers, and a flat list: docs/PROMISES.md names this, and C lends the list to `t6963c_writers`, four numbers a store. The
+// door is written out: a `Listed` is answered, so that no `?` can hand on what a shared test refuses.
 /// Every store of a log into a stretch of memory, its first and its last address; the stretch goes round where the last is below the first. The
 /// log is run, refused pairs skipped. `Invalid`, `WrongLength` of memory (65,536) or ROM (1,024), and `OddLength` with the pairs of the log leave
 /// all as it was.

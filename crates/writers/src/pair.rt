@@ -13,8 +13,9 @@ use state::panel::Panel;
 use state::registers::Registers;
 use stores::stores::stores;
 
-// Any pair by a whole access; what it stored is noted if it is accepted. Registers by value, since a local that is lent would stay in memory
-// for the whole loop.
+// Registers by value, since a local that is lent would stay in memory for the whole loop. `kind` and `byte` side by side, as `access` takes them.
+//
+// Any pair by a whole access; what it stored is noted if it is accepted.
 pub(crate) fn through(
     notes: &mut Notes,
     panel: Panel,

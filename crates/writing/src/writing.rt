@@ -1,4 +1,4 @@
-// What C calls to ask who wrote there.
+// What C calls to ask who wrote there. A body beside those of crates/boundary, as is said there.
 ghost use Rattle.std.specs.Prelude.{◌≡◌};
 ghost use Rattle.image.specs.Door.{panel_of};
 ghost use Rattle.writing.specs.Writing.{writers_end, writers_bytes};

@@ -42,6 +42,7 @@ fn put_all(rt: HostRuntime, frame: &[u8]) -> Result<()> {
     let mut written = Ok(());
     let mut left = frame.len();
     for bytes in frame.chunks(ACROSS) {
+        // counted down, as only the last line shows that nothing is left: an index would be multiplied again to say so
         left = left.saturating_sub(ACROSS);
         let end = if left == 0 { " };" } else { "," };
         written = written.and(println!(rt; "{}{end}", Line(bytes)));
@@ -59,6 +60,8 @@ fn put_xbm(rt: HostRuntime, panel: Panel, frame: &[u8]) -> Result<()> {
     width.and(height).and(name).and(put_all(rt, frame))
 }
 
+// Panel, registers, memory and ROM as `paint` takes them: a struct would be taken apart at once. The room is cut here, for it must be lent
+// to a function too, which would save the cut alone.
 // The frame painted and converted, then put out.
 fn put_frame(
     rt: HostRuntime,
@@ -70,6 +73,7 @@ fn put_frame(
     let size = panel.frame_size();
     let mut room = [0u8; 20480];
     let frame = &mut room[..size];
+    // neither refuses: the run was neither `Invalid` nor `OddLength`, and all lengths are right
     let _ = paint(panel, registers, memory, rom, frame);
     let _ = convert(panel, frame);
     put_xbm(rt, panel, frame)
@@ -88,7 +92,8 @@ fn tell(rt: HostRuntime, ran: Ran) -> Result<()> {
     }
 }
 
-// The frame after the run; on refusals 1 and 8 the line only.
+// The run stands here and in the layers program: a function would take the memory and the answers lent, and be this one call.
+// The frame after the run; on `Invalid` and `OddLength` the line only.
 fn show(rt: HostRuntime, rom: &[u8], input: &[u8]) -> Result<u8> {
     let panel = panel_in(input, has_argument(&rt, 2));
     let log = rest_in(input, 3);
@@ -112,7 +117,7 @@ fn show(rt: HostRuntime, rom: &[u8], input: &[u8]) -> Result<u8> {
     told.and(put).and(Ok(ran.number))
 }
 
-// Its own in each program: the room's length and what is shown differ, and no public function has the `requires` that a closure needs.
+// Its own in each program: what is shown differs, and no public function has the `requires` that a closure needs (docs/PROMISES.md).
 // The log run and its frame shown: the run's refusal number.
 fn show_log(rt: HostRuntime) -> Result<u8> {
     let mut rom = character_rom();
@@ -140,7 +145,7 @@ fn show_back(rt: HostRuntime) -> Result<u8> {
     Ok(number(converted))
 }
 
-// Whether the first argument is `back`.
+// Whether the first argument has four bytes, a `b` the first of them, as `back` has; the command gives no other such word.
 fn asked_back(rt: HostRuntime) -> bool {
     let mut word = [0u8; 5];
     match rt.arg(1, &mut word) {

@@ -13,14 +13,14 @@ returns-then-end-at c = let s = c.args in
 pub returns-in-Some : goal.returns-in-Some
 unfolding found_at
 returns-in-Some c = let s = c.args in
-    let both = found-numbered s.panel s.book.now s.at s.end (rw (lt-leb _ _ c.if-end-at.false, le-leb _ _ c.if-end-book.true) c.in-Some.ensures) in record { value = both.0; result_value = both.1; refusal = tt }
+    let both = found-numbered s.panel s.book.now s.at s.end (rw (lt-leb _ _ c.if-end-at.false, le-leb _ _ c.if-book-end.false) c.in-Some.ensures) in record { value = both.0; result_value = both.1; refusal = tt }
 
 pub returns-in-None : goal.returns-in-None
 unfolding found_at
 returns-in-None c = let s = c.args in
-    let both = found-numbered s.panel s.book.now s.at s.end (rw (lt-leb _ _ c.if-end-at.false, le-leb _ _ c.if-end-book.true) c.in-None.ensures) in record { value = both.0; result_value = both.1; refusal = refl }
+    let both = found-numbered s.panel s.book.now s.at s.end (rw (lt-leb _ _ c.if-end-at.false, le-leb _ _ c.if-book-end.false) c.in-None.ensures) in record { value = both.0; result_value = both.1; refusal = refl }
 
-pub returns : goal.returns
+pub returns-then-book-end : goal.returns-then-book-end
 unfolding found_at
-returns c = let s = c.args in
-    let both = found-numbered s.panel s.book.now s.at s.end (rw (lt-leb _ _ c.if-end-at.false, lt-leb _ _ c.if-end-book.false)) in record { value = both.0; result_value = both.1; refusal = refl }
+returns-then-book-end c = let s = c.args in
+    let both = found-numbered s.panel s.book.now s.at s.end (rw (lt-leb _ _ c.if-end-at.false, lt-leb _ _ c.if-book-end.true)) in record { value = both.0; result_value = both.1; refusal = refl }

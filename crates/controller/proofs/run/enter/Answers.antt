@@ -23,12 +23,6 @@ pub returns-then-log-ne0 : goal.returns-then-log-ne0
 returns-then-log-ne0 c = let s = c.args in
     run-8 s.skipping s.panel s.registers s.mem.now s.rom.now s.log.now s.limit s.answers.now s.skips.now c.valid.ensures c.valid-2.ensures c.if-not-valid.false c.if-not-fits.false c.if-log-ne0.true (c.ended-then-log-ne0.ensures ∙ ap (untaken _ s.registers) c.number-then-log-ne0.ensures)
 
-pub pairs-requires : goal.pairs-requires
-pairs-requires c = let i = c.valid.ensures in
-    let j = c.valid-2.ensures in
-    let e = c.if-not-valid.false in
-    record { runs = record { panel = sym i ∙ both_left _ c.valid-2.result e; state = sym j ∙ both_right c.valid.result _ e; lent = c.if-not-fits.false }; total_in_bounds = omega (arith, c.min-total.ensures) }
-
 pub returns : goal.returns
 returns c = let s = c.args in
     run-0 s.skipping s.panel s.registers s.mem.now s.rom.now s.log.now s.limit s.answers.now s.skips.now c.valid.ensures c.valid-2.ensures c.if-not-valid.false c.if-not-fits.false c.if-log-ne0.false c.min-total.ensures c.pairs.ensures

@@ -14,35 +14,11 @@ pub loop-i-init : goal.loop-i-init
 loop-i-init c = running c.args.panel c.args.skipping c.args.rom.now c.args.log.now c.args.total (standing c.args.registers c.args.mem.now c.args.answers.now 0) c.args.skips.now
     (sounds c.args.registers c.args.mem.now c.requires.runs.state (runs-lengths c.requires.runs).0)
 
-pub overflow_mul-kind : goal.overflow_mul-kind
-overflow_mul-kind c = omega (arith, c.requires.total_in_bounds, c.well_formed)
-
-pub bounds-log-i : goal.bounds-log-i
-bounds-log-i c = omega (arith, c.requires.total_in_bounds)
-
-pub overflow_mul-byte : goal.overflow_mul-byte
-overflow_mul-byte c = omega (arith, c.requires.total_in_bounds, c.well_formed)
-
-pub overflow_add-byte : goal.overflow_add-byte
-overflow_add-byte c = omega (arith, c.requires.total_in_bounds, c.well_formed)
-
-pub bounds-log-i-in-loop-i : goal.bounds-log-i-in-loop-i
-bounds-log-i-in-loop-i c = omega (arith, c.requires.total_in_bounds)
-
-pub overflow_sub-end : goal.overflow_sub-end
-overflow_sub-end c = let b = (c.block-end.ensures c.loop-i.invariant.goes_on.sound.sound.memory c.requires.total_in_bounds c.loop-i.invariant.goes_on.inside) in omega (arith, b.reaches)
-
 pub loop-i-smaller-then-kind-is_write : goal.loop-i-smaller-then-kind-is_write
 loop-i-smaller-then-kind-is_write c = let b = (c.block-end.ensures c.loop-i.invariant.goes_on.sound.sound.memory c.requires.total_in_bounds c.loop-i.invariant.goes_on.inside) in let h = block-moves b c.loop-i-test.true c.requires.total_in_bounds (eqb-true _ 0 (both_left _ c.is_write.result c.if-kind-is_write.true)) in omega (arith, b.inside, h)
 
 pub loop-i-preserved-then-kind-is_write : goal.loop-i-preserved-then-kind-is_write
 loop-i-preserved-then-kind-is_write c = going-block c.loop-i.invariant c.is_write.ensures c.if-kind-is_write.true (c.block-end.ensures c.loop-i.invariant.goes_on.sound.sound.memory c.requires.total_in_bounds c.loop-i.invariant.goes_on.inside) c.passed-bus.ensures
-
-pub overflow_add-i : goal.overflow_add-i
-overflow_add-i c = omega (arith, c.loop-i-test.true, c.requires.total_in_bounds, c.well_formed)
-
-pub loop-i-smaller-then-kind-off : goal.loop-i-smaller-then-kind-off
-loop-i-smaller-then-kind-off c = nearer c.loop-i-test.true
 
 pub loop-i-preserved-then-kind-off : goal.loop-i-preserved-then-kind-off
 loop-i-preserved-then-kind-off c = going-pushes c.loop-i.invariant c.loop-i-test.true c.requires.total_in_bounds c.is_off-off.ensures c.if-kind-off.true c.datum-bus.ensures
@@ -53,23 +29,11 @@ loop-i-preserved-then-told c = going-tells c.loop-i.invariant c.loop-i-test.true
 pub loop-i-preserved-in-Some : goal.loop-i-preserved-in-Some
 loop-i-preserved-in-Some c = going-draws (going-kept c.loop-i.invariant (c.tell-told.ensures.keeps c.if-told.false)) c.loop-i-test.true c.requires.total_in_bounds c.is_off-off.ensures c.draw.ensures c.in-Some.is c.emptied-bus.ensures
 
-pub overflow_add-i-then-kind-byte : goal.overflow_add-i-then-kind-byte
-overflow_add-i-then-kind-byte c = omega (arith, c.loop-i-test.true, c.requires.total_in_bounds, c.well_formed)
-
-pub loop-i-smaller-then-kind-byte : goal.loop-i-smaller-then-kind-byte
-loop-i-smaller-then-kind-byte c = nearer c.loop-i-test.true
-
 pub loop-i-preserved-then-kind-byte : goal.loop-i-preserved-then-kind-byte
 loop-i-preserved-then-kind-byte c = going-leaves (going-kept c.loop-i.invariant (c.tell-told.ensures.keeps c.if-told.false)) c.loop-i-test.true c.requires.total_in_bounds c.if-kind-byte.true c.freed-bus.ensures
 
 pub loop-i-preserved-in-Some-ask : goal.loop-i-preserved-in-Some-ask
 loop-i-preserved-in-Some-ask c = going-asks (going-kept c.loop-i.invariant (c.tell-told.ensures.keeps c.if-told.false)) c.loop-i-test.true c.requires.total_in_bounds c.ask.ensures c.in-Some-ask.is
-
-pub overflow_add-i-then-kind : goal.overflow_add-i-then-kind
-overflow_add-i-then-kind c = omega (arith, c.loop-i-test.true, c.requires.total_in_bounds, c.well_formed)
-
-pub loop-i-smaller-then-kind : goal.loop-i-smaller-then-kind
-loop-i-smaller-then-kind c = nearer c.loop-i-test.true
 
 pub loop-i-preserved-then-kind : goal.loop-i-preserved-then-kind
 loop-i-preserved-then-kind c = going-ticks (going-held (going-kept c.loop-i.invariant (c.tell-told.ensures.keeps c.if-told.false)) c.ask.ensures c.in_default-ask.is) c.loop-i-test.true c.requires.total_in_bounds c.if-kind.true c.ticked-display.ensures

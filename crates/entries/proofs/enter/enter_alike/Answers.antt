@@ -11,8 +11,8 @@ use Rattle.entries.proofs.enter.enter_alike.Goals as goal
 
 pub returns-then-room-bytes-clause-answer : goal.returns-then-room-bytes-clause-answer
 returns-then-room-bytes-clause-answer c = let a = c.args in
-    enters-not a.list.now (differences_from 0 a.one.now a.two.now) (differences_from 0 a.a.now a.b.now) (c.count_apart-bytes.ensures ∙ ap length (alike _ _)) (c.count_apart-values.ensures ∙ ap length (alike _ _)) c.min.ensures c.if-room-bytes.true
+    enters-not a.list.now (differences_from 0 a.one.now a.two.now) (differences_from 0 a.a.now a.b.now) (c.count_apart-bytes.ensures ∙ ap length (alike _ _)) (c.count_apart-values.ensures ∙ ap length (alike _ _)) c.saturating_sub-left.ensures c.if-room-bytes.true
 
 pub returns-clause-answer : goal.returns-clause-answer
 returns-clause-answer c = let a = c.args in
-    enters-all a.list.now (differences_from 0 a.one.now a.two.now) (differences_from 0 a.a.now a.b.now) (c.count_apart-bytes.ensures ∙ ap length (alike _ _)) (c.count_apart-values.ensures ∙ ap length (alike _ _)) c.min.ensures c.if-room-bytes.false (c.list_apart.ensures ∙ ap (λ (ds : List Difference). sets a.list.now 0 (numbers_of ds)) (alike a.one.now a.two.now)) (c.list_apart-2.ensures ∙ ap (λ (ds : List Difference). sets c.list_apart.new.list (3 * c.count_apart-bytes.result) (numbers_of ds)) (alike a.a.now a.b.now))
+    enters-all a.list.now (differences_from 0 a.one.now a.two.now) (differences_from 0 a.a.now a.b.now) (c.count_apart-bytes.ensures ∙ ap length (alike _ _)) (c.count_apart-values.ensures ∙ ap length (alike _ _)) c.saturating_sub-left.ensures c.if-room-bytes.false (c.list_apart.ensures ∙ ap (λ (ds : List Difference). sets a.list.now 0 (numbers_of ds)) (alike a.one.now a.two.now)) (c.list_apart-2.ensures ∙ ap (λ (ds : List Difference). sets c.list_apart.new.list (3 * c.count_apart-bytes.result) (numbers_of ds)) (alike a.a.now a.b.now))

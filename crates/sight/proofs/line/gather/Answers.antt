@@ -4,18 +4,6 @@ use Rattle.sight.proofs.Lines.{gathered}
 use Rattle.sight.proofs.Readied.{shown-bytes}
 use Rattle.sight.proofs.line.gather.Goals as goal
 
-pub slice_bounds-row_layers-end : goal.slice_bounds-row_layers-end
-slice_bounds-row_layers-end c = let h : c.args.panel.columns - c.args.column ≤ 80 = omega (arith, c.requires.seeing.columns) in
-    sym (length-take-le _ _ h)
-
-pub slice_bounds-row_layers-end-2 : goal.slice_bounds-row_layers-end-2
-slice_bounds-row_layers-end-2 c = let h : c.args.panel.columns - c.args.column ≤ 80 = omega (arith, c.requires.seeing.columns) in
-    sym (length-take-le _ _ h)
-
-pub slice_bounds-row_layers-end-3 : goal.slice_bounds-row_layers-end-3
-slice_bounds-row_layers-end-3 c = let h : c.args.panel.columns - c.args.column ≤ 80 = omega (arith, c.requires.seeing.columns) in
-    sym (length-take-le _ _ h)
-
 pub returns : goal.returns
 returns c = let h : c.args.panel.columns - c.args.column ≤ 80 = omega (arith, c.requires.seeing.columns) in
     gathered _ _ _ _ _ refl refl h (length-take-le _ _ h) (shown-bytes c.requires.seeing _ _ _ _ _ c.row_layers.ensures.answer refl refl)

@@ -16,7 +16,3 @@ pub returns-in-Some : goal.returns-in-Some
 returns-in-Some c = let r = c.args.registers.now in
     ap (with_bus r) (peek_found c.args.panel c.args.rom.now r c.args.memory.now c.find.ensures (ap located c.in-Some.is)
     (layers-shown c.layers.result c.unwrap.ensures ∙ shown-byte c.requires _ _ c.layers.ensures))
-
-pub returns-in-None : goal.returns-in-None
-returns-in-None c = let r = c.args.registers.now in
-    ap (with_bus r) (peek-nowhere c.args.panel c.args.rom.now r c.args.memory.now c.find.ensures (ap located c.in-None.is))

@@ -3,15 +3,9 @@ use Rattle.std.proofs.Common.{refl, arith}
 use Rattle.sight.proofs.Positions.{searching, search-on, search-found, search-over}
 use Rattle.sight.proofs.position.find.Goals as goal
 
-pub loop-row-init : goal.loop-row-init
-loop-row-init c = searching _ _ _ _ (omega arith)
-
 pub returns-then-across-columns : goal.returns-then-across-columns
 returns-then-across-columns c =
     search-found c.args.panel c.args.graphic c.loop-row.invariant (omega arith) (omega arith) c.loop-row-test.true c.requires.0 c.if-across-columns.true
-
-pub loop-row-preserved : goal.loop-row-preserved
-loop-row-preserved c = search-on c.loop-row.invariant (omega arith) (omega arith) c.requires.0 c.if-across-columns.false refl
 
 pub returns : goal.returns
 returns c = search-over c.args.panel c.args.graphic c.loop-row.invariant c.loop-row-test.false

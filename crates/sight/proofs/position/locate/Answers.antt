@@ -4,13 +4,6 @@ use Rattle.state.proofs.Valid.{panelled}
 use Rattle.sight.proofs.Positions.{located-on, located-off}
 use Rattle.sight.proofs.position.locate.Goals as goal
 
-pub find-requires : goal.find-requires
-find-requires c = let q = panelled c.args.panel (sym c.valid.ensures ∙ c.if-valid.true) in (q.columns, q.lines)
-
-pub returns-then-valid : goal.returns-then-valid
-returns-then-valid c = let a = c.args in
-    located-on a.panel a.graphic a.pointer (sym c.valid.ensures ∙ c.if-valid.true) c.find.ensures
-
 pub returns : goal.returns
 returns c = let a = c.args in
     located-off a.panel a.graphic a.pointer (sym c.valid.ensures ∙ c.if-valid.false)

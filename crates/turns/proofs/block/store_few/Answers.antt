@@ -7,4 +7,4 @@ pub loop-i-init : goal.loop-i-init
 loop-i-init c = begins _ _ _ _ _ (omega arith) c.requires.total_in_bounds.1
 
 pub loop-i-preserved : goal.loop-i-preserved
-loop-i-preserved c = begin-on c.loop-i.invariant c.loop-i-test.true c.if-log-i-ne0.false refl refl
+loop-i-preserved c = begin-on c.loop-i.invariant c.loop-i-test.true c.if-log-i.false refl refl

@@ -20,7 +20,7 @@ loop-i-smaller-then-kind-is_write c = let on = block-moves c.stretch-end.ensures
 
 pub loop-i-preserved-then-kind-is_write : goal.loop-i-preserved-then-kind-is_write
 loop-i-preserved-then-kind-is_write c =
-    flagging-block c.loop-i.invariant c.is_write.ensures c.if-kind-is_write.true (may-follow c.loop-i.invariant c.requires.following) c.stretch-end.ensures (ap (with_bus c.loop-i.state) c.passed.ensures)
+    flagging-block c.loop-i.invariant c.is_write.ensures c.if-kind-is_write.true (may-follow c.loop-i.invariant c.requires.following) c.stretch-end.ensures (ap (with_bus c.loop-i.state) c.passed-state.ensures)
 
 pub loop-i-preserved-in-Some : goal.loop-i-preserved-in-Some
 loop-i-preserved-in-Some c = flagging-quick c.loop-i.invariant c.loop-i-test.true c.requires.total_in_bounds c.in-Some.ensures

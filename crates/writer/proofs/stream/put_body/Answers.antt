@@ -6,9 +6,6 @@ use Rattle.writer.proofs.Bodies.{writing, writing-found, writing-ready, writing-
 use native.Mathlib.Omega.{arith}
 use Rattle.writer.proofs.stream.put_body.Goals as goal
 
-pub loop-standing-init : goal.loop-standing-init
-loop-standing-init c = let a = c.args in writing a.panel a.book.now a.start a.end c.requires
-
 pub put_operation-requires : goal.put_operation-requires
 put_operation-requires c = let a = c.args in writing-ready a.panel a.book.now a.start a.end c.loop-standing.invariant refl (sym (rw c.in-Ok-Some.field-0-is at c.in-Ok-Some.ensures.value))
 

@@ -8,12 +8,6 @@ use Rattle.book.proofs.Places.{row-place}
 use native.Mathlib.Omega.{arith}
 use Rattle.writer.proofs.stream.put_rows.Goals as goal
 
-pub loop-i-init : goal.loop-i-init
-loop-i-init c = let a = c.args in looping a.stream.now a.height (a.width + 5) (rows_left a.panel a.top a.column a.height a.width a.value)
-
-pub overflow_mul-row : goal.overflow_mul-row
-overflow_mul-row c = omega (arith, row-place c.args.panel c.requires.valid c.requires.range c.loop-i.i (omega arith), graphic-few c.args.panel c.requires.valid)
-
 pub run-requires : goal.run-requires
 run-requires c = loop-room c.loop-i.invariant (omega arith) c.requires.fits
 

@@ -7,15 +7,6 @@ use Rattle.writer.proofs.Puts.{put-block-as}
 use native.Mathlib.Omega.{arith}
 use Rattle.writer.proofs.stream.put_text.Goals as goal
 
-pub overflow_mul-cell : goal.overflow_mul-cell
-overflow_mul-cell c = omega (arith, text-place c.args.panel c.requires.valid c.requires.range)
-
-pub overflow_add-cell : goal.overflow_add-cell
-overflow_add-cell c = omega (arith, text-place c.args.panel c.requires.valid c.requires.range)
-
-pub overflow_cast-cell : goal.overflow_cast-cell
-overflow_cast-cell c = omega (arith, text-place c.args.panel c.requires.valid c.requires.range)
-
 pub overflow_add-text_home : goal.overflow_add-text_home
 overflow_add-text_home c = omega (arith, text-place c.args.panel c.requires.valid c.requires.range, c.text_home.ensures)
 

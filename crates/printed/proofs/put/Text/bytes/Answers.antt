@@ -1,12 +1,10 @@
--- `bytes` meets its contract: the characters so far, one more at each turn.
+-- `bytes` meets its contract: one stretch copied.
 use mathlib.Core.Path.{refl}
-use lib.Seq.{take_all}
-use Rattle.printed.proofs.Puts.{goes, puts_same, take_more}
+use lib.ListN.{length}
+use Rattle.std.proofs.Common.{rules}
+use Rattle.ground.proofs.Mids.{mid-sets}
 use Rattle.printed.proofs.put.Text.bytes.Goals as goal
 
-pub loop-byte-preserved : goal.loop-byte-preserved
-loop-byte-preserved c = let k = c.loop-byte in
-    goes k.invariant c.byte.ensures (take_more c.args.bytes.now k.byte-index c.loop-byte-test.true) refl
-
 pub returns : goal.returns
-returns c = puts_same (take_all c.loop-byte.byte-index c.args.bytes.now c.loop-byte-test.false) c.loop-byte.invariant.puts
+returns c = let a = c.args in
+    record { put = record { holds = mid-sets a.self.now.at (length a.bytes.now) a.self.now.room.now a.bytes.now c.copy_from_slice.ensures.after refl c.requires; ends = refl }; kept = search rules; same_room = refl }
