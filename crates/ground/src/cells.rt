@@ -73,7 +73,8 @@ pub fn pack(width: usize, cells: &[u8], out: &mut [u8])
     ensures { out.new ≡ pack_of width cells.now out.old }
 {
     if ((width == 6) | (width == 8)) & (cells.len() <= 80) {
-        let bytes = (cells.len() * width).div_ceil(8);
+        // no `div_ceil`: it divides by a value, and nothing under the painter divides
+        let bytes = (cells.len() * width + 7) / 8;
         if out.len() == bytes {
             pack_row(width, cells, out);
         }

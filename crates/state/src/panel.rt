@@ -32,7 +32,8 @@ impl Panel {
         ensures { result ≡ valid_size self (row_size self) }
     {
         if self.valid() {
-            (self.columns * self.width).div_ceil(8)
+            // no `div_ceil`: it divides by a value, and nothing under the painter divides
+            (self.columns * self.width + 7) / 8
         } else {
             0
         }
