@@ -5,17 +5,16 @@ ghost use Rattle.display.specs.Shaded.{font_of};
 use ground::stretches::give;
 use state::registers::Display;
 
-// Eight rows of each code: all from memory, or below 80H from the ROM.
-pub(crate) fn font(display: Display, mem: &[u8], rom: &[u8]) -> [u8; 2048]
-    requires { (length mem.now ≡ 65536) × (length rom.now ≡ 1024) × (display.offset < 32) }
-    ensures value { result ≡ font_of display mem.now rom.now }
-    ensures value_2 { 2048 ≡ length result }
+// Eight rows of each code: all from memory, or below 80H from the ROM. Into room that is lent: an array that is handed out lies on the stack
+// twice, and is copied.
+pub(crate) fn font(display: Display, mem: &[u8], rom: &[u8], glyphs: &mut [u8])
+    requires lent { (length mem.now ≡ 65536) × (length rom.now ≡ 1024) × (display.offset < 32) }
+    requires room { length glyphs.old ≡ 2048 }
+    ensures { glyphs.new ≡ font_of display mem.now rom.now }
 {
     let bank = 2048 * (display.offset as usize);
-    let mut glyphs = [0u8; 2048];
-    give(&mem[bank..bank + 2048], &mut glyphs);
+    give(&mem[bank..bank + 2048], glyphs);
     if !display.external {
-        give(rom, &mut glyphs);
+        give(rom, glyphs);
     }
-    glyphs
 }

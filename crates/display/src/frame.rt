@@ -34,7 +34,8 @@ fn paint_some(
     ensures { out.new ≡ joined (length flags.now) (some_row panel display mem.now rom.now first bytes flags.now out.old) }
 {
     let columns = panel.columns;
-    let glyphs = font(display, mem, rom);
+    let mut glyphs = [0u8; 2048];
+    font(display, mem, rom, &mut glyphs);
     let shades = tables(panel, display);
     let scene = Scene {
         panel,

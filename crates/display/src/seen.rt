@@ -31,7 +31,8 @@ pub fn row_layers(
     let valid = panel.valid() & display.valid();
     let alike = (text.len() == shown.len()) & (graphic.len() == shown.len());
     admit(valid, mem, rom, alike)?;
-    let glyphs = font(display, mem, rom);
+    let mut glyphs = [0u8; 2048];
+    font(display, mem, rom, &mut glyphs);
     let shades = tables(panel, display);
     let scene = Scene {
         panel,

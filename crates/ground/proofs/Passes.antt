@@ -1,7 +1,6 @@
 -- A list given to another, or filled while an address goes on, round.
-use Rattle.std.proofs.Common.{◌≡◌, ℕ, zero, suc, ◌+◌, ◌*◌, ◌%◌, ◌^◌, ◌<◌, ◌≤◌, min, Bool, true, false, cond, ◌&&◌, eqb, ltb, List, [], ◌∷◌, ◌++◌, length, get_or, take, drop, get_or-take, set, sym, refl, ap, ◌∙◌, arith, ext_get_or, eq-eqb, ne_eqb}
+use Rattle.std.proofs.Common.{◌≡◌, ℕ, zero, suc, ◌+◌, ◌*◌, ◌%◌, ◌^◌, ◌<◌, ◌≤◌, min, Bool, true, false, cond, ◌&&◌, eqb, ltb, List, [], ◌∷◌, ◌++◌, length, get_or, drop, set, sym, refl, ap, ◌∙◌, arith, ext_get_or, eq-eqb, ne_eqb}
 use lib.ListN.{get_or-eq_default, replicate, length-replicate, get_or-replicate}
-use lib.Seq.{length-take-le}
 use Rattle.ground.specs.Lists.{build, round_byte, read_round, looked_up, given_to}
 use Rattle.ground.proofs.Lists.{build-length, build-at, build-cong}
 use Rattle.ground.proofs.Filling.{Filled, none_yet, one_more, unwritten, rest-same}
@@ -18,16 +17,14 @@ module _ (from to : List ℕ) where
   unfolding given_to
   given {l} {n} e k h = rest-same (λ j. get_or from j (get_or to j 0)) to k (λ i a b. get_or-eq_default from (get_or to i 0) (omega (arith, e)))
 
-  -- the shorter one's length copied over the front
-  pub given-cut : {l : List ℕ} {m : ℕ} → m ≡ min (length from) (length to) → l ≡ take m from → l ++ drop m to ≡ given_to from to
-  given-cut {l} {m} e k =
-      let long : length (take m from) ≡ m = length-take-le m from (omega (arith, e)) in
+  -- the shorter one's length written over the front
+  pub given-over : {l : List ℕ} {m : ℕ} → m ≡ min (length from) (length to) → l ≡ build m (λ j. get_or from j 0) → l ++ drop m to ≡ given_to from to
+  given-over {l} {m} e k =
       given e
       (record {
         inside = omega (arith, e);
         holds = ap (λ (x : List ℕ). x ++ drop m to)
-            (k ∙ ext_get_or 0 (take m from) (build m (λ j. get_or from j (get_or to j 0))) (long ∙ sym (build-length m (λ j. get_or from j (get_or to j 0))))
-            (λ i h. get_or-take m from i 0 (omega (arith, long)) ∙ inside from i 0 (get_or to i 0) (omega (arith, long, e)) ∙ sym (build-at m (λ j. get_or from j (get_or to j 0)) i 0 (omega (arith, long)))));
+            (k ∙ build-cong m (λ j. get_or from j 0) (λ j. get_or from j (get_or to j 0)) (λ i h. inside from i 0 (get_or to i 0) (omega (arith, h, e))));
       })
       (omega arith)
 

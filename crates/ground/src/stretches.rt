@@ -2,7 +2,7 @@
 ghost use Rattle.std.specs.Prelude.{◌≡◌, length};
 ghost use Rattle.ground.specs.Lists.{build, given_to, read_round, looked_up};
 
-use super::bytes::low;
+use super::bytes::{lesser, low};
 
 // a function, though it is `fill(0)`: docs/PROMISES.md names it
 /// Every byte 0.
@@ -16,8 +16,11 @@ pub fn clear(list: &mut [u8])
 pub fn give(from: &[u8], to: &mut [u8])
     ensures { to.new ≡ given_to from.now to.old }
 {
-    let both = from.len().min(to.len());
-    to[..both].copy_from_slice(&from[..both]);
+    let both = lesser(from.len(), to.len());
+    // not `copy_from_slice`: that becomes `memmove`, which a library for C then wants from outside (docs/C.md)
+    for (j, byte) in to[..both].iter_mut().enumerate() {
+        *byte = from[j];
+    }
 }
 
 /// The low w bits of a memory's bytes from an address on, round, as many as are asked for; a memory of another length is not read.

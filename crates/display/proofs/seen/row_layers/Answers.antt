@@ -14,7 +14,7 @@ invariant_of-scene c = let a = c.args in
     let j = c.valid-2.ensures in
     let o = let-in _ _ c.in_ok-admit.ensures in
     let d = asked-drawable a.panel a.display a.mem.now a.rom.now a.row a.column a.text.now a.graphic.now a.shown.now i j o.0 o.1 in
-    record { valid_panel = sym i ∙ both_left _ _ o.0; valid_display = sym j ∙ both_right c.valid.result _ o.0; memory = d.memory; bytes = λ k. (c.type_inv.mem k).fits; glyphs = is-font a.display a.mem.now a.rom.now c.font-glyphs.ensures.value; shaded = c.tables-shades.ensures.shaded.made }
+    record { valid_panel = sym i ∙ both_left _ _ o.0; valid_display = sym j ∙ both_right c.valid.result _ o.0; memory = d.memory; bytes = λ k. (c.type_inv.mem k).fits; glyphs = is-font a.display a.mem.now a.rom.now c.font.ensures; shaded = c.tables-shades.ensures.shaded.made }
 
 pub returns-clause-answer : goal.returns-clause-answer
 returns-clause-answer c = let a = c.args in
@@ -22,7 +22,7 @@ returns-clause-answer c = let a = c.args in
     let j = c.valid-2.ensures in
     let o = let-in _ _ c.in_ok-admit.ensures in
     let l = c.lay in
-    let f = c.font-glyphs.ensures.value in
+    let f = c.font.ensures in
     asked-0 a.panel a.display a.mem.now a.rom.now a.row a.column a.text.now a.graphic.now a.shown.now i j o.0 o.1 {t = l.new.text} (text-by-font a.panel a.display a.mem.now a.rom.now a.row f a.column (length a.text.now) l.ensures.text_after) l.ensures.graphic_after (shown-by-font a.panel a.display a.mem.now a.rom.now a.row f a.column (length a.shown.now) l.ensures.shown_after)
 
 pub returns-in_err-admit-clause-answer : goal.returns-in_err-admit-clause-answer
