@@ -1,9 +1,20 @@
 // What the parts of an access do to the registers.
 ghost use Rattle.std.specs.Prelude.{◌≡◌, if◌then◌else◌};
-ghost use Rattle.effects.specs.Effect.{with_auto, pushed, moved_of, set_of, is_write, is_read, auto_bits, bus_status, status_of};
+ghost use Rattle.effects.specs.Effect.{with_mode, with_auto, pushed, moved_of, set_of, is_write, is_read, auto_bits, bus_status, status_of};
 
 use ground::bytes::word;
-use state::registers::{Auto, Bus, Move, Pending, Registers, Target};
+use state::registers::{Auto, Bus, Combination, Display, Move, Pending, Registers, Target};
+
+/// The display in another mode: where its characters come from, and how text and graphic combine; all else as it was.
+pub fn with_mode(display: Display, external: bool, combination: Combination) -> Display
+    ensures { result ≡ with_mode display external combination }
+{
+    Display {
+        external,
+        combination,
+        ..display
+    }
+}
 
 /// The bus in another auto mode, all else as it was.
 pub fn with_auto(bus: Bus, auto: Auto) -> Bus

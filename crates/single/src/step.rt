@@ -12,7 +12,7 @@ ghost use Rattle.state.specs.State.{none};
 use codes::command::{Command, is_off};
 use codes::decode::decode;
 use codes::pair::{Kind, Pair};
-use effects::effect::{moved, push, set, status};
+use effects::effect::{moved, push, set, status, with_auto, with_mode};
 use effects::store::{change, fetch, put};
 use sight::copy::copy;
 use sight::peek::peek;
@@ -34,12 +34,11 @@ fn effect(registers: &mut Registers, panel: Panel, memory: &mut [u8], rom: &[u8]
     match command {
         Command::Set(target) => set(registers, target, pending.older, pending.newest),
         Command::Mode(external, combination) => {
-            display.external = external;
-            display.combination = combination;
+            *display = with_mode(*display, external, combination)
         }
         Command::DisplayMode(bits) => display.bits = bits,
         Command::Height(height) => display.cursor.height = height,
-        Command::Run(auto) => bus.auto = auto,
+        Command::Run(auto) => *bus = with_auto(*bus, auto),
         Command::Store(direction) => *bus = put(*bus, memory, pending.newest, direction),
         Command::Load(direction) => *bus = fetch(*bus, memory, direction),
         Command::Peek => peek(registers, panel, memory, rom),

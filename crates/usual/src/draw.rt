@@ -2,6 +2,7 @@
 ghost use Rattle.usual.specs.Done.{drawn};
 ghost use Rattle.usual.specs.Ready.{Draws};
 
+use effects::effect::with_mode;
 use state::registers::{Combination, Cursor, Display, DisplayBits};
 
 // Codes once more beside `codes::decode`: a decoded command is an enum and goes through memory (docs/SPEED.md). `quiet` as docs/PROMISES.md has
@@ -26,11 +27,7 @@ pub fn draw(display: Display, quiet: bool, code: u8) -> Option<Display>
                 4 => Combination::Attribute,
                 _ => return None,
             };
-            Some(Display {
-                external: (low >> 3) % 2 == 1,
-                combination,
-                ..display
-            })
+            Some(with_mode(display, (low >> 3) % 2 == 1, combination))
         }
         9 => {
             let bits = DisplayBits {

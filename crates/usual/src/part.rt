@@ -5,7 +5,7 @@ ghost use Rattle.state.specs.State.{none};
 ghost use Rattle.effects.specs.Effect.{with_pending, with_auto, with_phase, pushed};
 ghost use Rattle.usual.specs.Types.{Off};
 
-use effects::effect::push;
+use effects::effect::{push, with_auto};
 use state::registers::{Auto, Bus, Display, Pending};
 
 /// None pending.
@@ -21,9 +21,7 @@ pub fn emptied(bus: Bus) -> Bus
 pub fn freed(bus: Bus) -> Bus
     ensures { result ≡ with_pending (with_auto bus Off) none }
 {
-    let mut next = bus;
-    next.auto = Auto::Off;
-    emptied(next)
+    emptied(with_auto(bus, Auto::Off))
 }
 
 /// A datum pending.

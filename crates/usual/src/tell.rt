@@ -2,6 +2,7 @@
 ghost use Rattle.std.specs.Prelude.{◌≡◌, false};
 ghost use Rattle.usual.specs.Ready.{Tells};
 
+use effects::effect::with_auto;
 use effects::store::{change, fetch, put};
 use ground::bytes::word;
 use state::registers::{Auto, Bus, Move, Pending};
@@ -43,20 +44,14 @@ pub fn tell(bus: Bus, mem: &mut [u8], quiet: bool, code: u8) -> Told
                     done: true,
                 }
             }
-            0xb0 => {
-                next.auto = Auto::Write;
-                Told {
-                    bus: next,
-                    done: true,
-                }
-            }
-            0xb1 => {
-                next.auto = Auto::Read;
-                Told {
-                    bus: next,
-                    done: true,
-                }
-            }
+            0xb0 => Told {
+                bus: with_auto(next, Auto::Write),
+                done: true,
+            },
+            0xb1 => Told {
+                bus: with_auto(next, Auto::Read),
+                done: true,
+            },
             0xc0 => {
                 if pending.count < 1 {
                     return left(bus);
