@@ -146,7 +146,7 @@ pub record Filled (log : List ℕ) (from n at : ℕ) (mem₀ mem : List ℕ) (be
 
 pub filled : (log : List ℕ) (from n at : ℕ) (mem : List ℕ) (notes : Notes) → at < 65536 → Filled log from n at mem mem notes notes 0
 filled log from n at mem notes l =
-    record { fills = filling log from n at mem notes.count notes.list.now l; count = refl; stays = record { stretch = refl; same_list = refl } }
+    record { fills = filling log from n at mem notes.count notes.list.now l; count = refl; stays = record { stretch = refl; same_list = refl; long = refl } }
 
 pub filled-on : {log : List ℕ} {from n at : ℕ} {mem₀ mem : List ℕ} {before notes next : Notes} {k : ℕ} → Filled log from n at mem₀ mem before notes k
     → k < n → at + n ≤ 65536 → 4 * (before.count + n) ≤ length before.list.now → length before.list.now < 2 ^ 64 → get_or log (2 * (from + k)) 0 ≡ 0
@@ -157,7 +157,7 @@ filled-on {log} {from} {n} {at} {mem₀} {mem} {before} {notes} {next} {k} g h u
       fills = filling-on g.fills h u r s z
           (p.holds ∙ ap (λ (m : ℕ). sets notes.list.now (4 * (m + k)) ((from + k) ∷ (at + k) ∷ get_or mem (at + k) 0 ∷ get_or log (2 * (from + k) + 1) 0 ∷ [])) g.count);
       count = p.count ∙ g.count;
-      stays = record { stretch = p.stays.stretch ∙ g.stays.stretch; same_list = p.stays.same_list ∙ g.stays.same_list };
+      stays = record { stretch = p.stays.stretch ∙ g.stays.stretch; same_list = p.stays.same_list ∙ g.stays.same_list; long = p.stays.long ∙ g.stays.long };
     }
 
 -- noted: none outside the stretch, all in it, counted alone where there is no room

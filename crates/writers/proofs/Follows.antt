@@ -364,14 +364,14 @@ followed p rom log total a r m k z l =
     record {
       following = subst (λ (n : ℕ). Following p rom a.stretch.first a.stretch.last log total (begun_list r m) a.list.now r m a.list.now n 0) (sym z)
           (following p rom a.stretch.first a.stretch.last log total a.list.now r m k l);
-      stays = record { stretch = refl; same_list = refl };
+      stays = record { stretch = refl; same_list = refl; long = refl };
     }
 
 module _ {p : Panel} {rom log : List ℕ} {total : ℕ} {s₀ : Standing Listing} {a : Notes} {d : Display} {b : Bus} {m : List ℕ} {n : Notes} {i : ℕ}
     (g : Followed p rom log total s₀ a (record { display = d; bus = b }) m n i) where
   -- behind a call that is lent what was lent here
   behind_call : {next : Notes} → Stays n next → Stays a next
-  behind_call s = record { stretch = s.stretch ∙ g.stays.stretch; same_list = s.same_list ∙ g.stays.same_list }
+  behind_call s = record { stretch = s.stretch ∙ g.stays.stretch; same_list = s.same_list ∙ g.stays.same_list; long = s.long ∙ g.stays.long }
 
   pub followed-data : 2 * total ≤ length log → {w : Bool} → w ≡ is_write b.auto → (eqb (get_or log (2 * i) 0) 0 && w) ≡ true → {left : ℕ} → i + left ≤ total → {m' : List ℕ} {k : ℕ} {n' : Notes}
       → Lays n.stretch.first n.stretch.last log i left b.pointer m m' (noting_of n) (noting_of n') k → Stays n n' → {next : Bus} → next ≡ with_pointer b ((b.pointer + k) % 65536)

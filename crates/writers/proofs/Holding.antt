@@ -42,7 +42,7 @@ pub noting-all : (pair at : ℕ) (before mem : List ℕ) (a : Notes) → NotingA
 noting-all pair at before mem a =
     record {
       notes = notes-none a.stretch.first a.stretch.last (stores_by pair at before mem) (noting_of a);
-      stays = record { stretch = refl; same_list = refl };
+      stays = record { stretch = refl; same_list = refl; long = refl };
     }
 
 pub noting-on : {pair at : ℕ} {before mem : List ℕ} {a b : Notes} {j : ℕ} → NotingAll pair at before mem a b j
@@ -54,5 +54,5 @@ noting-on {pair} {at} {before} {mem} {a} {b} {j} k e {next} f s =
       notes = f
           ∙ (λ i. noted_by (k.stays.stretch i).first (k.stays.stretch i).last (store pair (e i) (get_or before j 0) (get_or mem (e i) 0)) (k.notes i))
           ∙ notes-more a.stretch.first a.stretch.last (stores_by pair at before mem) j (noting_of a);
-      stays = record { stretch = s.stretch ∙ k.stays.stretch; same_list = s.same_list ∙ k.stays.same_list };
+      stays = record { stretch = s.stretch ∙ k.stays.stretch; same_list = s.same_list ∙ k.stays.same_list; long = s.long ∙ k.stays.long };
     }
