@@ -1,3 +1,4 @@
 pub mod Computed
 pub mod Heights
 pub mod Numbers
+pub mod Settled

@@ -1,2 +1,3 @@
 pub mod Listings
 pub mod Enterings
+pub mod Settled

@@ -1,3 +1,4 @@
 pub mod Images
 pub mod Doors
 pub mod Registries
+pub mod Settled

@@ -1,5 +1,5 @@
 -- Where the pointer stands: found at a position that no earlier one shares, or nowhere.
-use Rattle.std.proofs.Common.{◌≡◌, ℕ, ◌+◌, ◌*◌, ◌%◌, ◌<◌, ◌≤◌, Bool, true, false, cond, sym, ap, ◌∙◌, mod-eq_of_lt, suc-mul, zero-mul, add-one, arith, eq-eqb, ne_eqb, eqb-true}
+use Rattle.std.proofs.Common.{◌≡◌, ℕ, Option, Some, None, refl, ◌+◌, ◌*◌, ◌%◌, ◌<◌, ◌≤◌, Bool, true, false, cond, sym, ap, ◌∙◌, mod-eq_of_lt, suc-mul, zero-mul, add-one, arith, eq-eqb, ne_eqb, eqb-true}
 use native.Mathlib.Nat.{mod-add-mod}
 use native.Mathlib.Decide.{dec_lt}
 use Rattle.ground.specs.Lists.{build}
@@ -8,6 +8,8 @@ use Rattle.sight.specs.Types.{Panel, Plane, Position, At, Nowhere}
 use Rattle.state.specs.State.{valid_panel}
 use Rattle.state.specs.Address.{address_of}
 use Rattle.sight.specs.Position.{positions, stands_at, position_of, located_of}
+use Rattle.sight.specs.Located.{located}
+use Rattle.sight.specs.declared.position.Position.{Position as Place}
 
 module _ (p : Panel) (q : Plane) (pointer : ℕ) where
   -- no column of dot row r
@@ -104,3 +106,16 @@ module _ (p : Panel) (q : Plane) (pointer : ℕ) where
 
   pub located-off : valid_panel p ≡ false → Nowhere ≡ located_of p q pointer
   located-off v = sym (ap (λ (t : Bool). cond t (position_of p q pointer) Nowhere) v)
+
+-- two answers that meet the promise are equal
+placed : Position → Option Place
+placed (At row column) = Some (record { row = row; column = column })
+placed Nowhere = None
+
+placed-is : (x : Option Place) → x ≡ placed (located x)
+unfolding placed
+placed-is (Some place) = refl
+placed-is None = refl
+
+pub locate-result-settled : {x y : Option Place} (p : Panel) (q : Plane) (pointer : ℕ) → located x ≡ located_of p q pointer → located y ≡ located_of p q pointer → x ≡ y
+locate-result-settled {x} {y} p q pointer h k = placed-is x ∙ ap placed (h ∙ sym k) ∙ sym (placed-is y)
