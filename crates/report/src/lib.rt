@@ -6,7 +6,9 @@ ghost use Rattle.std.specs.Prelude.{◌≡◌, IfOk, IfErr};
 ghost use Rattle.io.specs.Counts.{IsPrefixLen};
 ghost use Rattle.state.specs.Refusals.{number_of};
 
-use io::{print_decimal, write_all};
+pub mod descriptor;
+
+use descriptor::Descriptor;
 use state::refusal::Refused;
 use std::env::FillError;
 use std::io::{Error, Print, Read, Result};
@@ -58,7 +60,7 @@ pub fn has_argument(rt: &impl Env, number: usize) -> bool {
 }
 
 // A refusal by its number, here and below: docs/PROMISES.md names these, and the line and the report are numbers, 0 for none.
-/// A refusal's line, to standard output or standard error.
+/// A refusal's line, to standard output, standard error or any `Descriptor`.
 pub fn put_refusal(out: &impl Print, number: u8, place: usize) -> Result<()> {
     println!(out; "refusal {number} place {place}")
 }
@@ -82,11 +84,12 @@ pub fn put_outcome<T>(out: &impl Print, outcome: &std::result::Result<T, Refused
     }
 }
 
-// by the kit's `io`: std has no safe handle for a descriptor that is not its own
+// by a `Descriptor`: std has no safe handle for one that is not its own
 /// The refusal number in decimal, to the line's end: all was read without an error and all was written, which is for the caller to see to.
 pub fn report(number: u8) {
-    print_decimal(REPORT_FILENO, number as u64);
-    write_all(REPORT_FILENO, b"\n");
+    let to = Descriptor(REPORT_FILENO);
+    let _ = print!(to; "{number}");
+    let _ = to.write_all(b"\n");
 }
 
 /// A program's end: the number that it came to is reported, and nothing where a read or a write failed.
