@@ -9,7 +9,8 @@ use Rattle.ground.proofs.Stores.{stored-length}
 use Rattle.ground.proofs.Tests.{both, both_right}
 use Rattle.effects.specs.Machine.{Machine, machine}
 use Rattle.effects.specs.Effect.{is_write}
-use Rattle.controller.specs.Access.{Pair, Step, done, answered, refused, step_of}
+use Rattle.controller.specs.Access.{Pair, Step, done, answered, refused, data_read_of, step_of}
+use Rattle.controller.specs.Types.{Auto}
 use Rattle.controller.specs.Run.{Standing, Turn, went, halted, turn_of, run_from, pairs_of}
 use Rattle.controller.specs.Skip.{Skipping, passed_by, skip_by, skip_step}
 use Rattle.controller.specs.Ready.{NotedAll, noted_all, noted_of, pairs_from, data_of}
@@ -39,6 +40,14 @@ opened p r mem rom flags q k =
     cond (k.panel i && k.state i)
     (cond (k.lent i && eq-eqb (length flags) (8 * p.lines) k.rows i) (flag_step p rom (with_flags (machine r mem) flags) q) (refused 2))
     (refused 1)
+
+-- data read in auto write are refused, whatever the room
+pub read-against : {p : Panel} {r : Registers} {mem rom flags : List ℕ} {k : ℕ} (b : ℕ) → Following p r mem rom flags → k ≡ 2 → is_write r.bus.auto ≡ true
+    → flag_entered_of p r mem rom (record { kind = k; byte = b }) flags ≡ refused 7
+read-against {p} {r} {mem} {rom} {flags} {k} b may e w =
+    opened p r mem rom flags (record { kind = k; byte = b }) may
+    ∙ ap (λ (n : ℕ). flag_step p rom (with_flags (machine r mem) flags) (record { kind = n; byte = b })) e
+    ∙ ap (λ (a : Auto). flag_by p (with_flags (machine r mem) flags) (record { kind = 2; byte = b }) (data_read_of a (machine r mem))) (write-only r.bus.auto w)
 
 -- a number, 0 where the pair is taken, and where the run then stands
 pub record TurnedFlags : Type 0 where

@@ -39,9 +39,14 @@ fn turn(
     byte: u8,
     flags: &mut [u8],
 ) -> Result<Taken, Refusal>
+    requires { Following panel registers memory.old rom.now flags.old }
     ensures step { flag_turn result memory.new flags.new answers.new ≡ turn_of (standing_flags registers memory.old flags.old answers.old given) (flag_entered_of panel registers memory.old rom.now (record { kind = kind; byte = byte }) flags.old) }
     ensures err { OnErr result ((memory.new ≡ memory.old) × ((flags.new ≡ flags.old) × (answers.new ≡ answers.old))) }
 {
+    // told without an access: a log may hold many
+    if (kind == Kind::Read as u8) & is_write(registers.bus.auto) {
+        return Err(Refusal::WrongWay);
+    }
     let mut after = registers;
     let answer = access(&mut after, panel, memory, rom, kind, byte, flags)?;
     let Some(read) = answer else {
