@@ -5,7 +5,8 @@
 use comparison::compare::{Compared, compare};
 use ground::bytes::word;
 use printed::fill::{character_rom, empty_memory};
-use printed::input::{byte_in, panel_in, rest_in, start_in};
+use printed::input::{byte_in, number_in, panel_in, rest_in, start_in};
+use printed::put::Text;
 use report::{finish, has_argument, read_rom, read_whole};
 use std::io::Result;
 
@@ -35,13 +36,33 @@ fn name(register: usize) -> &'static str {
     }
 }
 
+// By `Text`, and not by `println!`: there may be 65,536 of these lines, and of the others a few.
+// An address at which the memories differ, with the byte in each.
+fn put_address(rt: HostRuntime, address: usize, one: usize, two: usize) -> Result<()> {
+    let mut room = [0u8; 18];
+    let mut text = Text {
+        room: &mut room,
+        at: 0,
+    };
+    text.add(b"memory ");
+    text.add_hex_word((address % 65536) as u16);
+    text.add(b" ");
+    text.add_hex((one % 256) as u8);
+    text.add(b" ");
+    text.add_hex((two % 256) as u8);
+    text.add(b"\n");
+    let end = text.at;
+    Print::write_all(&rt, start_in(&room, end))
+}
+
 // A flat list, as `compare`, which docs/PROMISES.md names, fills it.
 // What differs and its two values, three numbers each: so many entries of memory, then those of registers. Where a line can't be written
 // the others are tried all the same.
 fn put_apart(rt: HostRuntime, apart: Compared, list: &[usize]) -> Result<()> {
     let mut written = println!(rt; "refusal 0 place 0 log 0");
     for entry in list.chunks_exact(3).take(apart.memory) {
-        let line = println!(rt; "memory {:04X} {:02X} {:02X}", entry[0], entry[1], entry[2]);
+        let address = number_in(entry, 0);
+        let line = put_address(rt, address, number_in(entry, 1), number_in(entry, 2));
         written = written.and(line);
     }
     for entry in list

@@ -4,14 +4,16 @@
 
 use naming::pair::Words;
 use printed::fill::empty_memory;
-use printed::input::panel_in;
+use printed::input::{panel_in, start_in};
+use printed::put::Text;
 use report::{finish, has_argument, read_whole};
 use single::step::access;
 use state::panel::Panel;
 use state::refusal::Refusal;
 use state::registers::Registers;
 use state::reply::number;
-use std::io::{Cursor, Error, ErrorKind, Read, Result, Write};
+use std::fmt::Write;
+use std::io::{Error, ErrorKind, Read, Result};
 
 // The bytes of a part of the log, 1,024 pairs, and the parts that are read at most: 2^43 bytes.
 const PART: usize = 2048;
@@ -32,13 +34,9 @@ struct Machine<'a> {
 }
 
 impl Machine<'_> {
+    // The numbers by `Text`, since by `write!` they took more time than the pair itself; the words, which have many forms, by `write!`.
     // The lines of some pairs, the first at the place `from`; a refused pair changes nothing, and the next is taken all the same.
-    fn list_pairs(
-        &mut self,
-        part: &[u8],
-        from: usize,
-        out: &mut Cursor<&mut [u8]>,
-    ) -> Result<Outcome> {
+    fn list_pairs(&mut self, part: &[u8], from: usize, text: &mut Text) -> Result<Outcome> {
         let mut first = Ok(());
         for (i, pair) in part.chunks_exact(2).enumerate() {
             let kind = pair[0];
@@ -57,10 +55,18 @@ impl Machine<'_> {
                 registers: self.registers,
                 access: done,
             };
-            // modulo 2^64, which no log reaches
-            let place = from.wrapping_add(i);
             let outcome = done.map(|_| ());
-            writeln!(out, "{place} {kind} {byte:02X} {} {words}", number(outcome))?;
+            // modulo 2^64, which no log reaches
+            text.add_decimal(from.wrapping_add(i));
+            text.add(b" ");
+            text.add_decimal(kind as usize);
+            text.add(b" ");
+            text.add_hex(byte);
+            text.add(b" ");
+            text.add_decimal(number(outcome) as usize);
+            text.add(b" ");
+            write!(text, "{words}")?;
+            text.add(b"\n");
             first = first.and(outcome);
         }
         Ok(first)
@@ -69,10 +75,13 @@ impl Machine<'_> {
     // A part of the log listed: its lines have less than 128 characters each, so that they have room.
     fn list_part(&mut self, rt: HostRuntime, part: &[u8], from: usize) -> Result<Outcome> {
         let mut room = [0u8; 131072];
-        let mut out = Cursor::new(&mut room[..]);
-        let first = self.list_pairs(part, from, &mut out);
-        let end = (out.position() as usize).min(room.len());
-        Print::write_all(&rt, &room[..end])?;
+        let mut text = Text {
+            room: &mut room,
+            at: 0,
+        };
+        let first = self.list_pairs(part, from, &mut text);
+        let end = text.at;
+        Print::write_all(&rt, start_in(&room, end))?;
         first
     }
 

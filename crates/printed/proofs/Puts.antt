@@ -93,3 +93,7 @@ piece_inside {i} {n} k h = let a : suc i * k ≤ n * k = mul-le-mul_right k h in
 
 pub piece-more : (i k : ℕ) {n : ℕ} → n ≡ k → (i + 1) * k ≡ i * k + n
 piece-more i k h = ap (λ (m : ℕ). m * k) (add-one i) ∙ suc-mul i k ∙ ap (λ (m : ℕ). i * k + m) (sym h)
+
+-- two texts with the same put into the same room are equal
+pub add-settled : {a x y : Text} {text : List ℕ} → Puts a text x → Puts a text y → (x.room.now ≡ y.room.now) × (x.at ≡ y.at)
+add-settled h k = (h.put.holds ∙ sym k.put.holds, h.put.ends ∙ sym k.put.ends)

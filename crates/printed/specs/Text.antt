@@ -27,6 +27,10 @@ decimal n = digits (suc n) n
 abbrev pub hex_digit : ℕ → ℕ
 hex_digit d = cond (ltb d 10) (48 + d) (55 + d)
 
+-- a byte's two digits
+abbrev pub hex_digits : ℕ → List ℕ
+hex_digits b = hex_digit (b / 16) ∷ hex_digit (b % 16) ∷ []
+
 -- a byte on a line of its own
 abbrev pub hex_line : ℕ → List ℕ
 hex_line b = hex_digit (b / 16) ∷ hex_digit (b % 16) ∷ newline

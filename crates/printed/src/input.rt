@@ -4,7 +4,7 @@ ghost use Rattle.printed.specs.Printed.{panel_in};
 
 use state::panel::Panel;
 
-// The body of contents' `byte_at` and of `number_in` below, which no program calls any more: docs/PROMISES.md names each.
+// The body of contents' `byte_at` and of `number_in` below: docs/PROMISES.md names each.
 /// A byte of the input, 0 where it is missing.
 pub fn byte_in(input: &[u8], at: usize) -> u8
     ensures { result ≡ get_or input.now at 0 }

@@ -5,6 +5,6 @@ pub mod dot;
 pub mod fill;
 pub mod input;
 pub mod parts;
-mod put;
+pub mod put;
 pub mod screen;
 pub mod told;

@@ -1,14 +1,15 @@
 // Text put into a lent room, one character behind the other. By hand, and not by `write!`: the theorems on what is printed say which digits
-// stand in the room, and no clause says what `write!` leaves in one that is lent.
-ghost use Rattle.std.specs.Prelude.{◌≡◌, [], ◌∷◌, ◌++◌, ◌+◌, ◌*◌, ◌/◌, ◌≤◌, ◌<◌, length};
+// stand in the room, and a line of some numbers takes a third of the instructions of std's formatting.
+ghost use Rattle.std.specs.Prelude.{◌≡◌, [], ◌∷◌, ◌++◌, ◌+◌, ◌*◌, ◌/◌, ◌%◌, ◌≤◌, ◌<◌, length, true, ◌↔◌, OnErr, IsOk};
 ghost use Rattle.ground.specs.Packing.{row_bytes};
 ghost use Rattle.printed.specs.Put.{Puts, RoomFor};
-ghost use Rattle.printed.specs.Text.{decimal, hex_digit, hex_line, hex_lines, dot_line};
+ghost use Rattle.printed.specs.Text.{decimal, hex_digit, hex_digits, hex_line, hex_lines, dot_line};
 ghost use Rattle.printed.specs.Printed.{refusal_line, first_line, frame_lines};
 
 use crate::dot::dot_mark;
 use ground::bytes::bit;
 use state::panel::Panel;
+use std::fmt;
 
 fn hex_digit(d: u8) -> u8
     requires { d < 16 }
@@ -17,15 +18,28 @@ fn hex_digit(d: u8) -> u8
     if d < 10 { b'0' + d } else { b'A' + (d - 10) }
 }
 
+// A byte's two digits.
+fn hex_digits(byte: u8) -> [u8; 2]
+    ensures { result ≡ hex_digits byte }
+{
+    [hex_digit(byte / 16), hex_digit(byte % 16)]
+}
+
 // Beside layout's `Output` and writer's `Stream`: in common they'd have these two fields, and each puts what the others don't.
-// A text that is being put into a lent room: the next character at `at`.
+/// A text that is being put into a lent room: the next character at `at`.
 #[derive(Drop)]
-pub(crate) struct Text<'a> {
-    pub(crate) room: &'a mut [u8],
-    pub(crate) at: usize,
+pub struct Text<'a> {
+    pub room: &'a mut [u8],
+    pub at: usize,
 }
 
 impl Text<'_> {
+    fn has_room(&self, size: usize) -> bool
+        ensures { (result ≡ true) ↔ RoomFor size self.now }
+    {
+        self.at <= self.room.len() && size <= self.room.len() - self.at
+    }
+
     fn byte(&mut self, byte: u8)
         requires { RoomFor 1 self.old }
         ensures { Puts self.old (byte ∷ []) self.new }
@@ -54,6 +68,44 @@ impl Text<'_> {
         }
         self.decimal(n / 10);
         self.byte(last);
+    }
+
+    /// Characters, if there is room for all of them; else the text stays as it was.
+    pub fn add(&mut self, bytes: &[u8])
+        ensures room { RoomFor (length bytes.now) self.old → Puts self.old bytes.now self.new }
+        ensures none { (RoomFor (length bytes.now) self.old → ⊥) → self.new ≡ self.old }
+    {
+        if self.has_room(bytes.len()) {
+            self.bytes(bytes);
+        }
+    }
+
+    /// A number in decimal, if there is room for the 20 digits that it may have; else the text stays as it was.
+    pub fn add_decimal(&mut self, n: usize)
+        ensures room { RoomFor 20 self.old → Puts self.old (decimal n) self.new }
+        ensures none { (RoomFor 20 self.old → ⊥) → self.new ≡ self.old }
+    {
+        if self.has_room(20) {
+            self.decimal(n);
+        }
+    }
+
+    /// A byte's two hex digits, if there is room for both; else the text stays as it was.
+    pub fn add_hex(&mut self, byte: u8)
+        ensures room { RoomFor 2 self.old → Puts self.old (hex_digits byte) self.new }
+        ensures none { (RoomFor 2 self.old → ⊥) → self.new ≡ self.old }
+    {
+        self.add(&hex_digits(byte));
+    }
+
+    /// A word's four hex digits, likewise.
+    pub fn add_hex_word(&mut self, word: u16)
+        ensures room { RoomFor 4 self.old → Puts self.old (hex_digits (word / 256) ++ hex_digits (word % 256)) self.new }
+        ensures none { (RoomFor 4 self.old → ⊥) → self.new ≡ self.old }
+    {
+        let [first, second] = hex_digits((word / 256) as u8);
+        let [third, fourth] = hex_digits((word % 256) as u8);
+        self.add(&[first, second, third, fourth]);
     }
 
     // A word and a number, which has at most 20 digits.
@@ -93,9 +145,8 @@ impl Text<'_> {
         requires { RoomFor 3 self.old }
         ensures { Puts self.old (hex_line byte) self.new }
     {
-        self.byte(hex_digit(byte / 16));
-        self.byte(hex_digit(byte % 16));
-        self.byte(b'\n');
+        let [high, low] = hex_digits(byte);
+        self.bytes(&[high, low, b'\n']);
     }
 
     // Answers, one to a line.
@@ -134,6 +185,24 @@ impl Text<'_> {
         // by number and place: `chunks_exact(bytes)` would stop where a row has no bytes, and this takes such a panel too
         for row in 0..rows {
             self.dot_line(frame, row * bytes, dots);
+        }
+    }
+}
+
+impl fmt::Write for Text<'_> {
+    ghost write_str_gives = { λ before bytes after. Puts before bytes after };
+
+    /// The whole text, if there is room for it; else the text stays as it was.
+    fn write_str(&mut self, s: &str) -> fmt::Result
+        ensures ok { IsOk result → Puts self.old s.now self.new }
+        ensures room { IsOk result ↔ RoomFor (length s.now) self.old }
+        ensures err { OnErr result (self.new ≡ self.old) }
+    {
+        if self.has_room(s.len()) {
+            self.bytes(s.as_bytes());
+            Ok(())
+        } else {
+            Err(fmt::Error)
         }
     }
 }

@@ -8,32 +8,41 @@ use display::frame::paint;
 use mirror::convert::convert;
 use output::{write_line, write_rows};
 use printed::fill::{character_rom, empty_memory};
-use printed::input::{panel_in, rest_in};
+use printed::input::{panel_in, rest_in, start_in};
+use printed::put::Text;
 use report::{finish, has_argument, read_rom, read_whole};
 use state::panel::Panel;
 use state::refusal::Refusal;
 use state::registers::Registers;
 use state::reply::number;
-use std::fmt;
 use std::io::Result;
 use std::rt::Env;
 
 // Bytes to a line.
 const ACROSS: usize = 12;
 
-// The bytes of a line as C has them, with commas between them.
-#[derive(Clone, Copy, Drop)]
-struct Line<'a>(&'a [u8]);
+// In lower case, as XBM has them; printed's are in upper case.
+const DIGITS: [u8; 16] = *b"0123456789abcdef";
 
-impl fmt::Display for Line<'_> {
-    fn fmt<W: fmt::Write>(&self, f: &mut fmt::Formatter<W>) -> fmt::Result {
-        let mut between = "  ";
-        for byte in self.0 {
-            write!(f, "{between} 0x{byte:02x}")?;
-            between = ",";
-        }
-        Ok(())
+// By `Text`, a byte's six characters at once: by `println!` the program took 1.7 times as long.
+// The bytes of a line, at most twelve, as C has them, with commas between them and `end` behind.
+fn put_bytes(rt: HostRuntime, bytes: &[u8], end: &[u8]) -> Result<()> {
+    let mut room = [0u8; 80];
+    let mut text = Text {
+        room: &mut room,
+        at: 0,
+    };
+    let mut between = b' ';
+    text.add(b" ");
+    for byte in bytes {
+        let high = DIGITS[(byte / 16) as usize];
+        let low = DIGITS[(byte % 16) as usize];
+        text.add(&[between, b' ', b'0', b'x', high, low]);
+        between = b',';
     }
+    text.add(end);
+    let end = text.at;
+    Print::write_all(&rt, start_in(&room, end))
 }
 
 // All bytes of a frame, line after line, the closing brace behind the last one. Here and below: where a line can't be written the others
@@ -44,8 +53,8 @@ fn put_all(rt: HostRuntime, frame: &[u8]) -> Result<()> {
     for bytes in frame.chunks(ACROSS) {
         // counted down, as only the last line shows that nothing is left: an index would be multiplied again to say so
         left = left.saturating_sub(ACROSS);
-        let end = if left == 0 { " };" } else { "," };
-        written = written.and(println!(rt; "{}{end}", Line(bytes)));
+        let end: &[u8] = if left == 0 { b" };\n" } else { b",\n" };
+        written = written.and(put_bytes(rt, bytes, end));
     }
     written
 }
