@@ -5,6 +5,7 @@ use mathlib.Core.List.{List, [], ◌∷◌, ◌++◌}
 use Prim.Native.Nat.{ℕ, suc, ◌+◌, ◌*◌, ◌≤◌, ◌<◌}
 use native.Mathlib.Omega.{arith}
 use lib.Dec.{eqb}
+use mir.Val.{bool_byte}
 use Rattle.std.specs.List.{count_by, zip}
 use Rattle.std.proofs.lemmas.List.Sums.{sum_by-cons}
 use lib.ListN.{length, get_or, drop, length-append, drop_of_length-le}
@@ -54,6 +55,15 @@ count-few (x ∷ xs) (y ∷ ys) = go (eqb x y) (count-few xs ys)
     go true h = omega arith
     go false h = omega arith
 
+-- one comparison, as a number
+one-few : (t : Bool) → bool_byte (not t) ≤ 1
+one-few true = omega arith
+one-few false = omega arith
+
+one-is : (t : Bool) → bool_byte (not t) ≡ cond t 0 1
+one-is true = refl
+one-is false = refl
+
 module _ (old new : List ℕ) (same : length old ≡ length new) (i : ℕ) (h : i < length new) where
   old-next : drop i old ≡ get_or old i 0 ∷ drop (i + 1) old
   old-next = let e : suc i ≡ i + 1 = omega arith in drop-cons old i 0 (omega arith) ∙ ap (λ (n : ℕ). get_or old i 0 ∷ drop n old) e
@@ -61,12 +71,33 @@ module _ (old new : List ℕ) (same : length old ≡ length new) (i : ℕ) (h : 
   new-next : drop i new ≡ get_or new i 0 ∷ drop (i + 1) new
   new-next = let e : suc i ≡ i + 1 = omega arith in drop-cons new i 0 h ∙ ap (λ (n : ℕ). get_or new i 0 ∷ drop n new) e
 
+  count_next : change_count (drop i old) (drop i new) ≡ cond (eqb (get_or old i 0) (get_or new i 0)) 0 1 + change_count (drop (i + 1) old) (drop (i + 1) new)
+  unfolding change_count
+  count_next q = change_count (old-next q) (new-next q)
+
   changes-next : (at : ℕ) (t : Bool) → eqb (get_or old i 0) (get_or new i 0) ≡ t
       → changes_from at (drop i old) (drop i new) ≡ cond t [] (change_at at (get_or new i 0)) ++ changes_from (suc at) (drop (i + 1) old) (drop (i + 1) new)
   unfolding changes_from
   changes-next at t e =
       (λ q. changes_from at (old-next q) (new-next q))
       ∙ ap (λ (s : Bool). cond s [] (change_at at (get_or new i 0)) ++ changes_from (suc at) (drop (i + 1) old) (drop (i + 1) new)) e
+
+-- those before byte i are counted
+pub record Counting (old new : List ℕ) (count i : ℕ) : Type 0 where
+  pub few : count ≤ i
+  pub left : count + change_count (drop i old) (drop i new) ≡ change_count old new
+
+module _ (old new : List ℕ) (same : length old ≡ length new) {count i : ℕ} (k : Counting old new count i) where
+  pub counting-on : {n : ℕ} → i < length new → n ≡ bool_byte (not (eqb (get_or old i 0) (get_or new i 0))) → Counting old new (count + n) (i + 1)
+  counting-on {n} h e =
+      let t : Bool = eqb (get_or old i 0) (get_or new i 0) in
+      record { few = omega (arith, k.few, one-few t, e); left = omega (arith, k.left, count_next old new same i h, one-is t, e) }
+
+  pub counting-over : length new ≤ i → count ≡ count_by (λ (q : ℕ × ℕ). not (eqb q.0 q.1)) (zip old new)
+  unfolding change_count
+  counting-over h =
+      let e : change_count (drop i old) (drop i new) ≡ 0 = ap (λ (l : List ℕ). change_count l (drop i new)) (drop_of_length-le old {i = i} (omega (arith, same))) in
+      omega (arith, k.left, e, counted old new)
 
 -- with the changes from byte i on still to be put
 pub record Differs (a : Stream) (home : ℕ) (old new : List ℕ) (b : Stream) (i : ℕ) : Type 0 where

@@ -6,7 +6,7 @@ use mathlib.Core.Logic.{⊎_elim}
 use Prim.Native.Nat.{ℕ, ◌-◌, ◌*◌, ◌≤◌}
 use native.Mathlib.Nat.{mul_assoc}
 use native.Mathlib.Omega.{arith}
-use lib.ListN.{length, take, replicate, length-replicate}
+use lib.ListN.{length, take}
 use lib.Seq.{length-take-le, take-append_seam}
 use borrow.Author.Tests.{eq-eqb}
 use Rattle.ground.proofs.Tests.{both}
@@ -15,7 +15,7 @@ use Rattle.state.specs.State.{valid_panel}
 use Rattle.state.specs.Sizes.{cell_count, valid_size}
 use Rattle.state.proofs.Sizes.{is-size}
 use Rattle.contents.specs.Replies.{Asked, Body, Refused}
-use Rattle.std.specs.Prelude.{Ok, Err}
+use Rattle.std.specs.Prelude.{Result, Ok, Err, OnOk}
 use Rattle.state.specs.declared.refusal.Refused.{Refused as Turned}
 use Rattle.state.specs.Refusals.{number_of}
 use Rattle.state.proofs.RefusalNumbers.{not_zero}
@@ -37,20 +37,17 @@ use Rattle.difference.specs.Change.{write_short, change_screens, unless_asked, c
 use Rattle.difference.specs.declared.changes.Planes.{Planes}
 use Rattle.difference.specs.declared.write.Drawn.{Drawn}
 use Rattle.difference.specs.Differing.{LaidRange, Between, picture_from}
-use Rattle.difference.specs.Drawing.{Three, planes_now, planes_in, picture_in, DrawnScreen}
-
--- part of a plane of zeros
-pub cut : (n m : ℕ) → n ≤ m → length {A = ℕ} (take n (replicate m 0)) ≡ n
-cut n m h = length-take-le n (replicate m 0) (rw (length-replicate {A = ℕ} m 0) h)
+use Rattle.difference.specs.Drawing.{Three, Fronts, planes_now, planes_in, picture_in, DrawnScreen, DrawsOver}
 
 -- the parts lent are the panel's
-pub lent-sized : {p : Panel} {n : ℕ} {g t h : List ℕ} → valid_panel p ≡ true → n ≡ valid_size p (cell_count p) → length g ≡ 8 * n → length t ≡ n → length h ≡ 1024 → Sized p g t h
-lent-sized {p} {n} v e i j k =
-    let s : n ≡ p.lines * p.columns = is-size p v e in
+pub front-sized : {p : Panel} {n : ℕ} {g t h : List ℕ} → Fronts p g t h → n ≡ valid_size p (cell_count p) → n ≤ 2560 → Sized p (take (8 * n) g) (take n t) h
+front-sized {p} {n} {g} {t} k e f =
+    let s : n ≡ p.lines * p.columns = is-size p k.valid e in
+    let i : length (take (8 * n) g) ≡ 8 * n = length-take-le (8 * n) g (omega (arith, f, k.graphic)) in
     record {
       graphic = omega (arith, i, s, mul_assoc 8 p.lines p.columns);
-      codes = j ∙ s;
-      glyphs = k;
+      codes = length-take-le n t (omega (arith, f, k.codes)) ∙ s;
+      glyphs = k.glyphs;
     }
 
 -- a screen's cursor is in range
@@ -136,6 +133,11 @@ module _ (p : Panel) (book : List ℕ) (key : ℕ) {g t h : List ℕ} (v : valid
                 range = subst (λ (q : Picture). LaidRange p q.cursor) (sym is) (laid-range p book key e);
               }
           go (refused n place) e y = absurd (refused-number p book key e (sym (ap (λ (q : Plan). q.planned.number) y)))
+
+    pub planned-draws : (r : Result Style Turned) → planned_all (styled r) g₁ t₁ h₁ ≡ planes_of p book key g t h → OnOk r ((valid_panel p ≡ true) × Sized p g₁ t₁ h₁) → (g₂ t₂ : List ℕ)
+        → DrawsOver p (screen_of p book key) r (g₁ ++ g₂) (t₁ ++ t₂) h₁
+    planned-draws (Ok r) x z g₂ t₂ = planned-drawn r x z.1 g₂ t₂
+    planned-draws (Err e) x z g₂ t₂ = planned-refused e x
 
 -- two screens, the first one refused, the second, or both drawn
 module _ (p : Panel) (room : List ℕ) {s : Screen} (t : Screen) where

@@ -1,13 +1,15 @@
 -- A screen drawn: three planes, as a panel has them, and a style.
-use Rattle.std.specs.Prelude.{◌≡◌, List, ℕ, take, Result, Ok, Err}
+use Rattle.std.specs.Prelude.{◌≡◌, true, length, List, ℕ, take, Result, Ok, Err}
 use Rattle.state.specs.declared.panel.Panel.{Panel}
 use Rattle.state.specs.declared.refusal.Refused.{Refused}
 use Rattle.state.specs.Refusals.{number_of}
+use Rattle.state.specs.State.{valid_panel}
 use Rattle.state.specs.Sizes.{cell_count}
 use Rattle.book.specs.Operation.{Operation}
 use Rattle.book.specs.Screen.{Screen, screen, refused}
 use Rattle.picture.specs.Picture.{Picture, picture_of}
 use Rattle.picture.specs.Ready.{Sized, graphic_bytes, picture_with}
+use Rattle.picture.specs.declared.style.Style.{Style}
 use Rattle.difference.specs.declared.changes.Planes.{Planes}
 use Rattle.difference.specs.declared.write.Drawn.{Drawn}
 use Rattle.difference.specs.Differing.{LaidRange}
@@ -35,7 +37,19 @@ pub record DrawnScreen (p : Panel) (s : Screen) (d : Drawn) : Type 0 where
   pub sized : Sized p (picture_in p d).graphic (picture_in p d).codes (picture_in p d).glyphs
   pub range : LaidRange p (picture_in p d).cursor
 
--- or the screen's refusal
-abbrev pub Draws : Panel → Screen → Result Drawn Refused → Type 0
-Draws p s (Ok d) = DrawnScreen p s d
-Draws p s (Err e) = s ≡ refused (number_of e.refusal) e.place
+-- or the screen's refusal: planes and a style drawn
+abbrev pub DrawsOver : Panel → Screen → Result Style Refused → List ℕ → List ℕ → List ℕ → Type 0
+DrawsOver p s (Ok r) g t h = DrawnScreen p s (record { graphic = g; codes = t; glyphs = h; style = r })
+DrawsOver p s (Err e) g t h = s ≡ refused (number_of e.refusal) e.place
+
+-- and all of them drawn in place
+abbrev pub Draws : Panel → Screen → Result (Unit {0}) Refused → Drawn → Type 0
+Draws p s (Ok _) d = DrawnScreen p s d
+Draws p s (Err e) d = s ≡ refused (number_of e.refusal) e.place
+
+-- a valid panel, and room for any panel's planes
+pub record Fronts (p : Panel) (g t h : List ℕ) : Type 0 where
+  pub valid : valid_panel p ≡ true
+  pub graphic : length g ≡ 20480
+  pub codes : length t ≡ 2560
+  pub glyphs : length h ≡ 1024

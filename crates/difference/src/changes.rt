@@ -1,5 +1,5 @@
 // Bytes of two planes that differ.
-ghost use Rattle.std.specs.Prelude.{◌≡◌, ◌==◌, not, count_by, zip, OnErr};
+ghost use Rattle.std.specs.Prelude.{◌≡◌, ◌==◌, not, length, count_by, zip, OnErr};
 ghost use Rattle.writer.specs.Put.{Puts};
 ghost use Rattle.writer.specs.Written.{written_reply, wrote_all};
 ghost use Rattle.picture.specs.Laid.{laid};
@@ -25,9 +25,15 @@ pub(crate) struct Planes<'a> {
 
 // How many differ.
 fn count_changes(old: &[u8], new: &[u8]) -> usize
+    requires { length old.now ≡ length new.now }
     ensures { result ≡ count_by (λ q. not (q.0 == q.1)) (zip old.now new.now) }
 {
-    old.iter().zip(new).filter(|(a, b)| **a != **b).count()
+    let mut count = 0;
+    // tried as `zip`, `filter` and `count`: that is built to branches on each byte, this to vectors
+    for (i, byte) in new.iter().enumerate() {
+        count += usize::from(old[i] != *byte);
+    }
+    count
 }
 
 // Those that differ are put, ascending from a home on.

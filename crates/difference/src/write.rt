@@ -4,7 +4,7 @@ ghost use Rattle.state.specs.State.{valid_panel};
 ghost use Rattle.book.specs.Screen.{screen_of};
 ghost use Rattle.writer.specs.Written.{written_reply, wrote_all};
 ghost use Rattle.difference.specs.Change.{change_screens, change_of};
-ghost use Rattle.difference.specs.Drawing.{Draws, planes_now, planes_in};
+ghost use Rattle.difference.specs.Drawing.{Fronts, Draws, DrawsOver, planes_now, planes_in};
 
 use super::changes::{Planes, write_short};
 use contents::ask::ask;
@@ -13,7 +13,8 @@ use picture::style::Style;
 use state::panel::Panel;
 use state::refusal::{Refusal, Refused};
 
-// A screen's planes, at the start of room for any panel's since there is no heap, and its style.
+// A screen's planes, at the start of room for any panel's since there is no heap, and its style. It is drawn in place: handed out in a
+// `Result` its 24,064 bytes would be moved, and lie on the stack more than once.
 #[derive(Drop)]
 struct Drawn {
     graphic: [u8; 20480],
@@ -22,29 +23,49 @@ struct Drawn {
     style: Style,
 }
 
+// A screen's planes at the front of room for any panel's; slices, since no proof follows a part of an array behind `&mut self`.
+fn front_planes(
+    panel: Panel,
+    book: &[u8],
+    key: usize,
+    graphic: &mut [u8],
+    codes: &mut [u8],
+    glyphs: &mut [u8],
+) -> Result<Style, Refused>
+    requires { Fronts panel graphic.old codes.old glyphs.old }
+    ensures { DrawsOver panel (screen_of panel book.now key) result graphic.new codes.new glyphs.new }
+{
+    let size = panel.cell_count();
+    planes(
+        panel,
+        book,
+        key,
+        &mut graphic[..8 * size],
+        &mut codes[..size],
+        glyphs,
+    )
+}
+
 impl Drawn {
-    fn of(panel: Panel, book: &[u8], key: usize) -> Result<Drawn, Refused>
+    const BLANK: Drawn = Drawn {
+        graphic: [0; 20480],
+        codes: [0; 2560],
+        glyphs: [0; 1024],
+        style: Style::BLANK,
+    };
+
+    fn draw(&mut self, panel: Panel, book: &[u8], key: usize) -> Result<(), Refused>
         requires { valid_panel panel ≡ true }
-        ensures { Draws panel (screen_of panel book.now key) result }
+        ensures { Draws panel (screen_of panel book.now key) result self.new }
     {
-        let size = panel.cell_count();
-        let mut graphic = [0u8; 20480];
-        let mut codes = [0u8; 2560];
-        let mut glyphs = [0u8; 1024];
-        let style = planes(
-            panel,
-            book,
-            key,
-            &mut graphic[..8 * size],
-            &mut codes[..size],
-            &mut glyphs,
-        )?;
-        Ok(Drawn {
+        let Drawn {
             graphic,
             codes,
             glyphs,
             style,
-        })
+        } = self;
+        *style = front_planes(panel, book, key, graphic, codes, glyphs)?;
+        Ok(())
     }
 
     // What the panel has of the planes.
@@ -73,8 +94,10 @@ fn write_screens(
     ensures value { wrote_all (written_reply result) room.new ≡ change_screens panel room.old (screen_of panel book.now a) (screen_of panel book.now b) }
     ensures refused { OnErr result (room.new ≡ room.old) }
 {
-    let old = Drawn::of(panel, book, a)?;
-    let new = Drawn::of(panel, book, b)?;
+    let mut old = Drawn::BLANK;
+    old.draw(panel, book, a)?;
+    let mut new = Drawn::BLANK;
+    new.draw(panel, book, b)?;
     write_short(room, panel, old.planes(panel), new.planes(panel), new.style)
 }
 

@@ -1,6 +1,6 @@
 -- `put_changes` meets its contract: the changes from byte i on are still to be put.
 use native.Mathlib.Omega.{arith}
-use Rattle.difference.proofs.Comparing.{differs, differs-room, differs-other, differs-same, differs-over}
+use Rattle.difference.proofs.Comparing.{differs-room, differs-other, differs-same, differs-over}
 use Rattle.difference.proofs.changes.put_changes.Goals as goal
 use Rattle.difference.proofs.changes.put_changes.Goals.{then-old-i, else-old-i}
 

@@ -1,6 +1,6 @@
 -- `write_change` meets its contract: the panel, screen a, screen b, then both.
 use Rattle.std.proofs.lemmas.Result.{err_from_is_err_and}
-use Rattle.difference.proofs.Screens.{change-1, change-valid, change-a, change-b, change-both}
+use Rattle.difference.proofs.Screens.{change-1, change-a, change-b, change-both}
 use Rattle.difference.proofs.write.write_change.Goals as goal
 
 pub returns-then-not-valid-clause-value : goal.returns-then-not-valid-clause-value
