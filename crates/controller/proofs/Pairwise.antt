@@ -279,13 +279,10 @@ module _ {p : Panel} {on : Bool} {rom log : List ℕ} {total : ℕ} {s₀ : Stan
         → Running p on rom log total s₀ (standing (record { display = x; bus = b }) m a n) skips listed (i + 1)
     going-ticks e f = running-done g h l 4 e (λ t. done (machine (record { display = sym f t; bus = b }) m))
 
-    pub going-leaves : (eqb (get_or log (2 * i) 0) 1 && eqb (get_or log (2 * i + 1) 0) 0xb2) ≡ true → {next : Bus} → next ≡ with_pending (with_auto b Off) none
+    pub going-leaves : get_or log (2 * i) 0 ≡ 1 → get_or log (2 * i + 1) 0 ≡ 0xb2 → {next : Bus} → next ≡ with_pending (with_auto b Off) none
         → Running p on rom log total s₀ (standing (record { display = d; bus = next }) m a n) skips listed (i + 1)
-    going-leaves t f =
-        running-done g h l 1 (eqb-true (get_or log (2 * i) 0) 1 (both_left (eqb (get_or log (2 * i) 0) 1) (eqb (get_or log (2 * i + 1) 0) 0xb2) t))
-        (leaves p rom m d b (get_or log (2 * i + 1) 0)
-        (eqb-true (get_or log (2 * i + 1) 0) 0xb2 (both_right (eqb (get_or log (2 * i) 0) 1) (eqb (get_or log (2 * i + 1) 0) 0xb2) t)) {next = with_auto b Off} refl
-        ∙ (λ t. done (machine (record { display = d; bus = sym f t }) m)))
+    going-leaves c e f =
+        running-done g h l 1 c (leaves p rom m d b (get_or log (2 * i + 1) 0) e {next = with_auto b Off} refl ∙ (λ t. done (machine (record { display = d; bus = sym f t }) m)))
 
     pub going-asks : {o : Option Given} {u : Given} {after : List ℕ} → Asks d.phase b m a n (get_or log (2 * i) 0) (asked b n o) after → o ≡ Some u
         → Running p on rom log total s₀ (standing (record { display = d; bus = u.bus }) m after u.given) skips listed (i + 1)
@@ -303,15 +300,12 @@ module _ {p : Panel} {on : Bool} {rom log : List ℕ} {total : ℕ} {s₀ : Stan
           (ap (λ (x : Auto). data_write_of x (machine (record { display = d; bus = b }) m) (get_or log (2 * i + 1) 0)) (off-only b.auto (sym e ∙ both_right (eqb (get_or log (2 * i) 0) 0) off t))
           ∙ (λ t. done (machine (record { display = d; bus = sym f t }) m)))
 
-      pub going-tells : {told : Told} {after : List ℕ} → Tells b m (eqb (get_or log (2 * i) 0) 1 && off) (get_or log (2 * i + 1) 0) told after → told.done ≡ true
+      pub going-tells : get_or log (2 * i) 0 ≡ 1 → {told : Told} {after : List ℕ} → Tells b m off (get_or log (2 * i + 1) 0) told after → told.done ≡ true
           → Running p on rom log total s₀ (standing (record { display = d; bus = told.bus }) after a n) skips listed (i + 1)
-      going-tells k t =
-          running-done g h l 1 (eqb-true (get_or log (2 * i) 0) 1 (both_left (eqb (get_or log (2 * i) 0) 1) off (k.quiet t)))
-          (k.acts t (sym e ∙ both_right (eqb (get_or log (2 * i) 0) 1) off (k.quiet t)) p rom d)
+      going-tells c k t = running-done g h l 1 c (k.acts t (sym e ∙ k.quiet t) p rom d)
 
-      pub going-draws : {o : Option Display} {x : Display} → Draws d (eqb (get_or log (2 * i) 0) 1 && off) (get_or log (2 * i + 1) 0) (drawn d o) → o ≡ Some x → {next : Bus} → next ≡ with_pending b none
+      pub going-draws : get_or log (2 * i) 0 ≡ 1 → {o : Option Display} {x : Display} → Draws d off (get_or log (2 * i + 1) 0) (drawn d o) → o ≡ Some x → {next : Bus} → next ≡ with_pending b none
           → Running p on rom log total s₀ (standing (record { display = x; bus = next }) m a n) skips listed (i + 1)
-      going-draws {x = x} y t f =
-          let k = subst (λ (o : Option Display). Draws d (eqb (get_or log (2 * i) 0) 1 && off) (get_or log (2 * i + 1) 0) (drawn d o)) t y in
-          running-done g h l 1 (eqb-true (get_or log (2 * i) 0) 1 (both_left (eqb (get_or log (2 * i) 0) 1) off (k.quiet refl)))
-          (k.acts refl b (sym e ∙ both_right (eqb (get_or log (2 * i) 0) 1) off (k.quiet refl)) p rom m ∙ (λ t. done (machine (record { display = x; bus = sym f t }) m)))
+      going-draws c {x = x} y t f =
+          let k = subst (λ (o : Option Display). Draws d off (get_or log (2 * i + 1) 0) (drawn d o)) t y in
+          running-done g h l 1 c (k.acts refl b (sym e ∙ k.quiet refl) p rom m ∙ (λ t. done (machine (record { display = x; bus = sym f t }) m)))

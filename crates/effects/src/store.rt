@@ -8,8 +8,7 @@ use crate::effect::moved;
 use ground::bytes::with_bit;
 use state::registers::{Bus, Move};
 
-// All 65,536 bytes are there in a run, and the compiler then drops the test. Tried and slower: `get` here and `with_auto` in the usual commands
-// took two fifths more for single stores.
+// All 65,536 bytes are there in a run, and the compiler then drops the test.
 /// The byte at an address; 0 behind the memory's end.
 pub fn byte_there(memory: &[u8], address: u16) -> u8
     ensures { result ≡ slice_index memory.now address }

@@ -44,7 +44,7 @@ pub fn low(width: usize, byte: u8) -> u8
     byte & full(width)
 }
 
-// a function, though it is `min` and no crate calls it: docs/PROMISES.md names it
+// a function, though it is `min`: docs/PROMISES.md names it
 /// The lesser of two numbers.
 pub fn lesser(a: usize, b: usize) -> usize
     ensures { result ≡ min a b }

@@ -2,11 +2,10 @@
 ghost use Rattle.usual.specs.Done.{asked};
 ghost use Rattle.usual.specs.Ready.{Asks};
 
-use codes::command::is_off;
 use codes::pair::Kind;
-use effects::effect::{bus_status, is_read, moved};
+use effects::effect::{bus_status, moved};
 use effects::store::byte_there;
-use state::registers::{Bus, Move};
+use state::registers::{Auto, Bus, Move};
 
 /// A read done: the bus then, the answers so far.
 #[derive(Clone, Copy, Debug, PartialEq, Eq)]
@@ -16,7 +15,8 @@ pub struct Asked {
 }
 
 // Kind, buffer and count as docs/PROMISES.md has `ask`, which leaves a pair of any kind. No `get_mut(given)`: behind it a proof knows no byte of the
-// buffer.
+// buffer. Kind and room are tested before `auto`, and the pointer of a copy is set: with one test for kind, room and `auto`, and `..bus`, the run's
+// reads in auto read took 2.4 ns a pair for 1.8.
 /// A read of the status or of data, where there is room for the answer behind the `given` first. Any other pair is left, and gives none.
 pub fn ask(
     phase: bool,
@@ -28,7 +28,6 @@ pub fn ask(
 ) -> Option<Asked>
     ensures { Asks phase bus mem.now answers.old given kind (asked bus given result) answers.new }
 {
-    let auto = bus.auto;
     let room = given < answers.len();
     if (kind == Kind::Status as u8) & room {
         answers[given] = bus_status(bus, phase);
@@ -37,23 +36,26 @@ pub fn ask(
             given: given + 1,
         });
     }
-    if (kind == Kind::Read as u8) & room & is_off(auto) {
-        answers[given] = bus.latch;
-        return Some(Asked {
-            bus,
-            given: given + 1,
-        });
+    if (kind != Kind::Read as u8) | !room {
+        return None;
     }
-    if (kind == Kind::Read as u8) & room & is_read(auto) {
-        answers[given] = byte_there(mem, bus.pointer);
-        let next = Bus {
-            pointer: moved(Move::Up, bus.pointer),
-            ..bus
-        };
-        return Some(Asked {
-            bus: next,
-            given: given + 1,
-        });
+    match bus.auto {
+        Auto::Off => {
+            answers[given] = bus.latch;
+            Some(Asked {
+                bus,
+                given: given + 1,
+            })
+        }
+        Auto::Read => {
+            answers[given] = byte_there(mem, bus.pointer);
+            let mut next = bus;
+            next.pointer = moved(Move::Up, bus.pointer);
+            Some(Asked {
+                bus: next,
+                given: given + 1,
+            })
+        }
+        Auto::Write => None,
     }
-    None
 }

@@ -1,5 +1,5 @@
-// What a datum, a command of the display, B2H and a tick do. Each copies and then sets a field: with `..bus` in place of that stores between
-// status reads took 4.3 ns a pair for 3.8.
+// What a datum, a command of the display, B2H and a tick do. None pending, a datum and a tick copy and then set a field: with `..bus` in place of
+// that stores between status reads took 4.3 ns a pair for 3.8.
 ghost use Rattle.std.specs.Prelude.{◌≡◌, not};
 ghost use Rattle.state.specs.State.{none};
 ghost use Rattle.effects.specs.Effect.{with_pending, with_auto, with_phase, pushed};
