@@ -28,15 +28,18 @@ fn count(panel: Panel, book: &[u8], start: usize, end: usize) -> Result<usize, R
 {
     let mut at = start;
     let mut total: usize = 0;
-    // no iterator of operations: it would yield Results, tested in each round as here, and save the round's last line alone
-    while let Some(standing) = read(panel, book, at, end).map_err(|refusal| Refused {
-        refusal,
-        place: at,
-    })? {
-        total += pairs(standing.placed);
-        at = standing.next;
+    // no iterator of operations: it would yield Results, tested in each round as here, and save the round's last line alone; no `map_err(..)?`,
+    // which copied what was read and took half of the walk's time
+    loop {
+        match read(panel, book, at, end) {
+            Ok(Some(standing)) => {
+                total += pairs(standing.placed);
+                at = standing.next;
+            }
+            Ok(None) => return Ok(total),
+            Err(refusal) => return Err(Refused { refusal, place: at }),
+        }
     }
-    Ok(total)
 }
 
 /// A screen of a book, by its number in form one or its identity in form two. The panel is judged first, then the contents,

@@ -18,6 +18,15 @@ pub struct Words {
     pub access: Result<Option<u8>, Refusal>,
 }
 
+// Two digits each, not by `{:02X}`: that took a fifth of the time of a pair's line.
+const DIGITS: [&str; 16] = [
+    "0", "1", "2", "3", "4", "5", "6", "7", "8", "9", "A", "B", "C", "D", "E", "F",
+];
+
+// A byte's two hex digits.
+#[derive(Clone, Copy, Debug, PartialEq, Eq)]
+struct Hex(u8);
+
 // The byte that a read was answered, behind an arrow.
 #[derive(Clone, Copy, Debug, PartialEq, Eq)]
 struct Answered(Result<Option<u8>, Refusal>);
@@ -29,10 +38,17 @@ struct Called {
     taken: Option<Registers>,
 }
 
+impl fmt::Display for Hex {
+    fn fmt<W: fmt::Write>(&self, f: &mut fmt::Formatter<W>) -> fmt::Result {
+        f.write_str(DIGITS[(self.0 / 16) as usize])?;
+        f.write_str(DIGITS[(self.0 % 16) as usize])
+    }
+}
+
 impl fmt::Display for Answered {
     fn fmt<W: fmt::Write>(&self, f: &mut fmt::Formatter<W>) -> fmt::Result {
         match self.0 {
-            Ok(Some(answer)) => write!(f, " -> {answer:02X}"),
+            Ok(Some(answer)) => write!(f, " -> {}", Hex(answer)),
             _ => Ok(()),
         }
     }
@@ -90,12 +106,12 @@ impl Words {
 
 impl fmt::Display for Words {
     fn fmt<W: fmt::Write>(&self, f: &mut fmt::Formatter<W>) -> fmt::Result {
-        let byte = self.byte;
+        let byte = Hex(self.byte);
         let answered = Answered(self.access);
         match Kind::try_from(self.kind) {
-            Ok(Kind::Data) => write!(f, "data {byte:02X}"),
+            Ok(Kind::Data) => write!(f, "data {byte}"),
             Ok(Kind::Command) => {
-                write!(f, "command {byte:02X} ")?;
+                write!(f, "command {byte} ")?;
                 self.command(f)
             }
             Ok(Kind::Read) => write!(f, "data read{answered}"),
