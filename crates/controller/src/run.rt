@@ -103,7 +103,7 @@ fn pairs(
             i += 1;
             continue;
         }
-        // a branch of their own: with the kind tested in their `quiet` and at B2H instead, reads in auto read took 3.3 ns a pair for 2.4
+        // commands in a branch of their own: with the kind tested in `quiet` and at B2H instead, reads in auto read took 3.3 ns a pair for 2.4
         if kind == Kind::Command as u8 {
             let told = tell(bus, mem, off, byte);
             if told.done {
